@@ -1,0 +1,7 @@
+-- The laws of specs/.
+pub mod Bools
+pub mod TestLaws
+pub mod SearchLaws
+pub mod Loops
+pub mod Places
+pub mod Order

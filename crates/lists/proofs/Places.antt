@@ -1,0 +1,95 @@
+-- A list in the first places of an array, the others blank: read back, one more at the end, one put in among them. Assumes nothing.
+use mathlib.Core.Path.{_≡_, refl, sym, ap, _∙_}
+use mathlib.Core.Bool.{Bool, true, false, cond, _&&_}
+use mathlib.Core.List.{List, [], _∷_, _++_, append-assoc}
+use Prim.Native.Nat.{ℕ, zero, suc, _+_, _-_, _≤_, _<_}
+use native.Mathlib.Numerals.{add-one}
+use native.Mathlib.Omega.{arith}
+use lib.ListN.{length, take, drop, getD, set, replicate, drop-of-length-le, length-append, length-drop, take-append-drop}
+use lib.Seq.{drop-cons, take-suc, append-snoc, length-take-le, take-append-le, drop-append-le, take-append-add, take-at, take-all, set-at, take-suc-set, drop-set-lt}
+use Rattle.lists.specs.Lists.{all, insert, pad}
+use Rattle.lists.proofs.Bools.{and-left, and-right}
+
+-- one more at the end of the list
+pub pad-more : {A : Type 0} (N : ℕ) (z x : A) (l : List A) → length l < N → set (pad N z l) (length l) x ≡ pad N z (l ++ (x ∷ []))
+pad-more N z x l h =
+    let k : ℕ = N - (length l + 1) in
+    let e : N - length l ≡ suc k = omega arith in
+    let f : N - length (l ++ (x ∷ [])) ≡ k = ap (λ (n : ℕ). N - n) (length-append l (x ∷ [])) in
+    ap (λ (n : ℕ). set (l ++ replicate n z) (length l) x) e
+    ∙ set-at l z (replicate k z) x (length l) refl
+    ∙ sym (append-assoc l (x ∷ []) (replicate k z))
+    ∙ ap (λ (n : ℕ). (l ++ (x ∷ [])) ++ replicate n z) (sym f)
+
+module _ {A : Type 0} (p : A → Bool) (z : A) (only : (x : A) → p x ≡ true → x ≡ z) where
+  -- places that all pass the test of a blank are blanks
+  pub blanks : (l : List A) → all p l ≡ true → l ≡ replicate (length l) z
+  blanks [] e = refl
+  blanks (x ∷ l) e = cc (only x (and-left (p x) (all p l) e), blanks l (and-right (p x) (all p l) e))
+
+  -- an array of N places of which those from n on are blank is its first n, padded
+  pub padded : (N : ℕ) (l : List A) (n : ℕ) → length l ≡ N → n ≤ N → all p (drop n l) ≡ true → l ≡ pad N z (take n l)
+  padded N l n e h b =
+      let k : length (drop n l) ≡ N - length (take n l) = rw (length-drop n l, length-take-le n l (omega arith)) (omega arith) in
+      sym (take-append-drop n l) ∙ ap (λ (t : List A). take n l ++ t) (blanks (drop n l) b ∙ ap (λ (m : ℕ). replicate m z) k)
+
+take-replicate : {A : Type 0} (z : A) (m k : ℕ) → m ≤ k → take m (replicate k z) ≡ replicate m z
+take-replicate z zero k h = refl
+take-replicate z (suc m) zero h = let f : ⊥ = omega arith in absurd f
+take-replicate {A} z (suc m) (suc k) h = ap (λ (l : List A). z ∷ l) (take-replicate z m k (omega arith))
+
+-- one put in at k among the first n, and what follows moved up by one place
+pub put-pad : {A : Type 0} (N : ℕ) (z x : A) (l : List A) (k : ℕ) → length l < N → k ≤ length l
+    → take N (take k (pad N z l) ++ (x ∷ drop k (pad N z l))) ≡ pad N z (take k l ++ (x ∷ drop k l))
+put-pad {A} N z x l k h kn =
+    let R : List A = replicate (N - length l) z in
+    let ins : List A = take k l ++ (x ∷ drop k l) in
+    let li : length ins ≡ length l + 1 =
+    rw (length-append (take k l) (x ∷ drop k l), length-take-le k l kn, length-drop k l) (omega arith) in
+    let whole : take k (l ++ R) ++ (x ∷ drop k (l ++ R)) ≡ ins ++ R =
+    ap (λ (t : List A). t ++ (x ∷ drop k (l ++ R))) (take-append-le k l R kn)
+    ∙ ap (λ (t : List A). take k l ++ (x ∷ t)) (drop-append-le k l R kn)
+    ∙ sym (append-assoc (take k l) (x ∷ drop k l) R) in
+    let nn : N ≡ length ins + (N - length ins) = omega arith in
+    ap (take N) whole
+    ∙ ap (λ (m : ℕ). take m (ins ++ R)) nn
+    ∙ take-append-add ins R (N - length ins)
+    ∙ ap (λ (t : List A). ins ++ t) (take-replicate z (N - length ins) (N - length l) (omega arith))
+
+-- ---- the loop that looks for the place of x: what it passed, and x put into what is left
+
+module _ {A : Type 0} (r : A → A → Bool) (d x : A) (l : List A) (i : ℕ) (inv : insert r x l ≡ take i l ++ insert r x (drop i l)) where
+  at-place : i < length l
+      → insert r x l ≡ take i l ++ cond (r x (getD l i d)) (x ∷ drop i l) (getD l i d ∷ insert r x (drop (i + 1) l))
+  at-place h =
+      let y : A = getD l i d in
+      let D : List A = drop (suc i) l in
+      rw add-one
+      (inv
+      ∙ ap (λ (t : List A). take i l ++ insert r x t) (drop-cons l i d h)
+      ∙ ap (λ (t : List A). take i l ++ cond (r x y) (x ∷ t) (y ∷ insert r x D)) (sym (drop-cons l i d h)))
+
+  pub place-turn : i < length l → r x (getD l i d) ≡ false → insert r x l ≡ take (i + 1) l ++ insert r x (drop (i + 1) l)
+  place-turn h f =
+      (rw f at (at-place h))
+      ∙ sym (append-snoc (take i l) (getD l i d) (insert r x (drop (i + 1) l)))
+      ∙ ap (λ (t : List A). t ++ insert r x (drop (i + 1) l)) (sym (take-suc l i d h) ∙ ap (λ (k : ℕ). take k l) (sym (add-one i)))
+
+  pub place-found : i < length l → r x (getD l i d) ≡ true → insert r x l ≡ take i l ++ (x ∷ drop i l)
+  place-found h f = rw f at (at-place h)
+
+  pub place-end : length l ≤ i → insert r x l ≡ take i l ++ (x ∷ drop i l)
+  place-end h = rw (drop-of-length-le l {i = i} h) (rw (drop-of-length-le l {i = i} h) at inv)
+
+-- ---- the loop that moves what follows up by one: c, carried, goes before what is left
+
+module _ {A : Type 0} {t : List A} where
+  pub shift-turn : (d : A) (l : List A) (c : A) (i : ℕ) → i < length l → take i l ++ (c ∷ drop i l) ≡ t
+      → take (i + 1) (set l i c) ++ (getD l i d ∷ drop (i + 1) (set l i c)) ≡ t
+  shift-turn d l c i h inv =
+      rw (add-one, take-suc-set l i c h, drop-set-lt (suc i) l i c (omega arith), append-snoc (take i l) c (getD l i d ∷ drop (suc i) l), ← drop-cons l i d h) inv
+
+  pub shift-end : (l : List A) (c : A) (i n : ℕ) → length l ≡ n → n ≤ i → take i l ++ (c ∷ drop i l) ≡ t → l ≡ take n t
+  shift-end l c i n e h inv =
+      let at : l ++ (c ∷ []) ≡ t = rw (take-all i l (omega arith), drop-of-length-le l {i = i} (omega arith)) at inv in
+      sym (take-at l (c ∷ []) n e) ∙ ap (take n) at

@@ -1,0 +1,168 @@
+-- The laws of searches over the numbers below a bound: a turn of the loop that counts, its end, and what was found. Assumes nothing.
+use mathlib.Core.Path.{_≡_, refl, sym, ap, ap₂, _∙_, subst}
+use mathlib.Core.Bool.{Bool, true, false, cond, _&&_, _||_, true≢false, false≢true}
+use mathlib.Core.Logic.{_⊎_, inl, inr, ⊎-elim}
+use Prim.Native.Nat.{ℕ, zero, suc, _+_, _≤_, _<_, zero-le, suc-le-suc, max}
+use native.Mathlib.Nat.{le-refl, le-trans, le-of-suc-le-suc, not-suc-le-zero, eq-or-lt-of-le, le-suc, le-antisymm, le-max-left, le-max-right, max-le}
+use native.Mathlib.Numerals.{add-one}
+use native.Mathlib.Omega.{arith}
+use borrow.Author.Tests.{leb-true, leb-false}
+use lib.Dec.{leb}
+use Rattle.lists.specs.Searches.{some, each, largest, least}
+use Rattle.lists.proofs.Bools.{false-unless, and-left, and-right, or-left, or-right, or-true-left, or-true-right, or-cases}
+
+-- i is below n or it is n
+below-suc : {i n : ℕ} → i < suc n → (i ≡ n) ⊎ (i < n)
+below-suc h = eq-or-lt-of-le (le-of-suc-le-suc h)
+
+module _ (f : ℕ → Bool) where
+  -- ---- some
+
+  pub some-start : some 0 f ≡ false
+  unfolding some
+  some-start = refl
+
+  pub some-more : (n : ℕ) → some (n + 1) f ≡ (f n || some n f)
+  unfolding some
+  some-more n = ap (λ (k : ℕ). some k f) (add-one n)
+
+  pub some-again : (n : ℕ) → f n ≡ false → some n f ≡ false → some (n + 1) f ≡ false
+  some-again n e h = some-more n ∙ ap (λ (t : Bool). t || some n f) e ∙ h
+
+  pub some-true : (n i : ℕ) → i < n → f i ≡ true → some n f ≡ true
+  unfolding some
+  some-true zero i h e = absurd (not-suc-le-zero h)
+  some-true (suc n) i h e =
+      ⊎-elim (λ q. or-true-left (f n) (some n f) (subst (λ (k : ℕ). f k ≡ true) q e)) (λ l. or-true-right (f n) (some n f) (some-true n i l e)) (below-suc h)
+
+  pub some-false : (n : ℕ) → some n f ≡ false → (i : ℕ) → i < n → f i ≡ false
+  unfolding some
+  some-false zero e i h = absurd (not-suc-le-zero h)
+  some-false (suc n) e i h =
+      ⊎-elim (λ q. subst (λ (k : ℕ). f k ≡ false) (sym q) (or-left (f n) (some n f) e)) (λ l. some-false n (or-right (f n) (some n f) e) i l) (below-suc h)
+
+  -- a number at which the test passes
+  pub some-at : (n : ℕ) → some n f ≡ true → (i : ℕ) × (i < n) × (f i ≡ true)
+  unfolding some
+  some-at zero e = absurd (false≢true e)
+  some-at (suc n) e =
+      ⊎-elim (λ q. (n, le-refl (suc n), q)) (λ r. let s = some-at n r in (s .0, le-trans (s .1) (le-suc n), s .2)) (or-cases (f n) (some n f) e)
+
+  -- ---- each
+
+  pub each-start : each 0 f ≡ true
+  unfolding each
+  each-start = refl
+
+  pub each-more : (n : ℕ) → each (n + 1) f ≡ (f n && each n f)
+  unfolding each
+  each-more n = ap (λ (k : ℕ). each k f) (add-one n)
+
+  pub each-again : (n : ℕ) → f n ≡ true → each n f ≡ true → each (n + 1) f ≡ true
+  each-again n e h = each-more n ∙ ap (λ (t : Bool). t && each n f) e ∙ h
+
+  pub each-true : (n : ℕ) → each n f ≡ true → (i : ℕ) → i < n → f i ≡ true
+  unfolding each
+  each-true zero e i h = absurd (not-suc-le-zero h)
+  each-true (suc n) e i h =
+      ⊎-elim (λ q. subst (λ (k : ℕ). f k ≡ true) (sym q) (and-left (f n) (each n f) e)) (λ l. each-true n (and-right (f n) (each n f) e) i l) (below-suc h)
+
+  -- one failure below n
+  pub each-at : (n i : ℕ) → i < n → f i ≡ false → each n f ≡ false
+  each-at n i h e = false-unless (each n f) (λ t. true≢false (sym (each-true n t i h) ∙ e))
+
+  -- a number at which the test fails
+  pub each-false : (n : ℕ) → each n f ≡ false → (i : ℕ) × (i < n) × (f i ≡ false)
+  unfolding each
+  each-false zero e = absurd (true≢false e)
+  each-false (suc n) e = go (f n) refl (each-false n)
+    where
+      go : (t : Bool) → f n ≡ t → (each n f ≡ false → (i : ℕ) × (i < n) × (f i ≡ false)) → (i : ℕ) × (i < suc n) × (f i ≡ false)
+      go true q rest = let s = rest (sym (ap (λ (t : Bool). t && each n f) q) ∙ e) in (s .0, le-trans (s .1) (le-suc n), s .2)
+      go false q rest = (n, le-refl (suc n), q)
+
+max-cases : (k x y : ℕ) → k ≤ max x y → (k ≤ x) ⊎ (k ≤ y)
+max-cases k x y h = go (leb k x) refl
+  where
+    go : (t : Bool) → leb k x ≡ t → (k ≤ x) ⊎ (k ≤ y)
+    go true e = inl (leb-true k x e)
+    go false e = let l : x < k = leb-false k x e in inr (omega arith)
+
+module _ (f : ℕ → ℕ) where
+  -- ---- largest
+
+  pub largest-start : largest 0 f ≡ 0
+  unfolding largest
+  largest-start = refl
+
+  pub largest-more : (n : ℕ) → largest (n + 1) f ≡ max (f n) (largest n f)
+  unfolding largest
+  largest-more n = ap (λ (k : ℕ). largest k f) (add-one n)
+
+  pub largest-le : (n k : ℕ) → ((i : ℕ) → i < n → f i ≤ k) → largest n f ≤ k
+  unfolding largest
+  largest-le zero k h = zero-le
+  largest-le (suc n) k h = max-le (h n (le-refl (suc n))) (largest-le n k (λ i l. h i (le-trans l (le-suc n))))
+
+  pub le-largest : (n i : ℕ) → i < n → f i ≤ largest n f
+  unfolding largest
+  le-largest zero i h = absurd (not-suc-le-zero h)
+  le-largest (suc n) i h =
+      ⊎-elim (λ q. subst (λ (k : ℕ). f k ≤ max (f n) (largest n f)) (sym q) (le-max-left (f n) (largest n f)))
+      (λ l. le-trans (le-largest n i l) (le-max-right (f n) (largest n f))) (below-suc h)
+
+  -- a turn of a loop that keeps the largest
+  pub largest-turn : {r v d : ℕ} (i : ℕ) → r ≡ max v d → v ≡ f i → d ≡ largest i f → r ≡ largest (i + 1) f
+  largest-turn i er ev ed = er ∙ ap₂ max ev ed ∙ sym (largest-more i)
+
+  -- a number at which f is at least k
+  pub largest-at : (k n : ℕ) → 0 < k → k ≤ largest n f → (i : ℕ) × (i < n) × (k ≤ f i)
+  unfolding largest
+  largest-at k zero h l = absurd (not-suc-le-zero (le-trans h l))
+  largest-at k (suc n) h l =
+      ⊎-elim (λ q. (n, le-refl (suc n), q)) (λ q. let s = largest-at k n h q in (s .0, le-trans (s .1) (le-suc n), s .2)) (max-cases k (f n) (largest n f) l)
+
+  pub largest-mono : (n m : ℕ) → n ≤ m → largest n f ≤ largest m f
+  largest-mono n m h = largest-le n (largest m f) (λ i l. le-largest m i (le-trans l h))
+
+  -- where no value is above k and a value before i is k, a search that stops at i has the largest
+  pub largest-stop : (k : ℕ) → ((i : ℕ) → f i ≤ k) → (i n : ℕ) → i ≤ n → k ≤ largest i f → largest i f ≡ largest n f
+  largest-stop k b i n h l = le-antisymm (largest-mono i n h) (le-trans (largest-le n k (λ j q. b j)) l)
+
+-- ---- least
+
+pub least-bound : (n : ℕ) (f : ℕ → Bool) → least n f ≤ n
+unfolding least
+least-bound zero f = zero-le
+least-bound (suc n) f = go (f 0) (least-bound n (λ k. f (suc k)))
+  where
+    go : (t : Bool) {l : ℕ} → l ≤ n → cond t 0 (suc l) ≤ suc n
+    go true h = zero-le
+    go false h = suc-le-suc h
+
+pub least-le : (n : ℕ) (f : ℕ → Bool) (k : ℕ) → k < n → f k ≡ true → least n f ≤ k
+unfolding least
+least-le zero f k h e = absurd (not-suc-le-zero h)
+least-le (suc n) f zero h e = subst (λ (t : Bool). cond t 0 (suc (least n (λ k. f (suc k)))) ≤ 0) (sym e) zero-le
+least-le (suc n) f (suc k) h e = go (f 0) (least-le n (λ k. f (suc k)) k (le-of-suc-le-suc h) e)
+  where
+    go : (t : Bool) {l : ℕ} → l ≤ k → cond t 0 (suc l) ≤ suc k
+    go true h = zero-le
+    go false h = suc-le-suc h
+
+pub least-hits : (n : ℕ) (f : ℕ → Bool) → least n f < n → f (least n f) ≡ true
+unfolding least
+least-hits zero f h = absurd (not-suc-le-zero h)
+least-hits (suc n) f h = go (f 0) refl (least n (λ k. f (suc k))) (least-hits n (λ k. f (suc k))) h
+  where
+    go : (t : Bool) → f 0 ≡ t → (l : ℕ) → (l < n → f (suc l) ≡ true) → cond t 0 (suc l) < suc n → f (cond t 0 (suc l)) ≡ true
+    go true q l rest h = q
+    go false q l rest h = rest (le-of-suc-le-suc h)
+
+pub le-least : (n : ℕ) (f : ℕ → Bool) (k : ℕ) → k ≤ n → ((j : ℕ) → j < k → f j ≡ false) → k ≤ least n f
+unfolding least
+le-least zero f k h g = h
+le-least (suc n) f zero h g = zero-le
+le-least (suc n) f (suc k) h g =
+    subst (λ (t : Bool). suc k ≤ cond t 0 (suc (least n (λ j. f (suc j))))) (sym (g 0 (suc-le-suc zero-le)))
+    (suc-le-suc (le-least n (λ j. f (suc j)) k (le-of-suc-le-suc h) (λ j l. g (suc j) (suc-le-suc l))))

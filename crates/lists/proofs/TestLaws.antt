@@ -1,0 +1,52 @@
+-- The laws of lists of tests. Assumes nothing.
+use mathlib.Core.Path.{_≡_, refl, ap, _∙_}
+use mathlib.Core.Bool.{Bool, true, false, cond, _&&_, _||_}
+use mathlib.Core.List.{List, [], _∷_}
+use Prim.Native.Nat.{ℕ, _<_}
+use native.Mathlib.Omega.{arith}
+use Rattle.lists.specs.Tests.{allOf, anyOf, firstOf}
+use Rattle.lists.proofs.Bools.{and-left, and-right, or-left, or-right}
+
+-- each test of the list has the value v
+abbrev pub Each : Bool → List Bool → Type 0
+Each v [] = Unit {0}
+Each v (t ∷ ts) = (t ≡ v) × Each v ts
+
+pub all-each : (ts : List Bool) → allOf ts ≡ true → Each true ts
+unfolding allOf
+all-each [] e = tt
+all-each (t ∷ ts) e = (and-left t (allOf ts) e, all-each ts (and-right t (allOf ts) e))
+
+pub each-all : (ts : List Bool) → Each true ts → allOf ts ≡ true
+unfolding allOf
+each-all [] e = refl
+each-all (t ∷ ts) e = ap (λ (x : Bool). x && allOf ts) (e .0) ∙ each-all ts (e .1)
+
+pub none-each : (ts : List Bool) → anyOf ts ≡ false → Each false ts
+unfolding anyOf
+none-each [] e = tt
+none-each (t ∷ ts) e = (or-left t (anyOf ts) e, none-each ts (or-right t (anyOf ts) e))
+
+pub each-none : (ts : List Bool) → Each false ts → anyOf ts ≡ false
+unfolding anyOf
+each-none [] e = refl
+each-none (t ∷ ts) e = ap (λ (x : Bool). x || anyOf ts) (e .0) ∙ each-none ts (e .1)
+
+-- every number of the list is above 0, as a refusal's is
+abbrev pub Numbered : List (ℕ × Bool) → Type 0
+Numbered [] = Unit {0}
+Numbered (c ∷ cs) = (0 < c .0) × Numbered cs
+
+-- no test of the list passes
+abbrev pub NonePass : List (ℕ × Bool) → Type 0
+NonePass [] = Unit {0}
+NonePass (c ∷ cs) = (c .1 ≡ false) × NonePass cs
+
+-- no refusal: every test of the order of checks failed
+pub none-pass : (cs : List (ℕ × Bool)) → Numbered cs → firstOf cs ≡ 0 → NonePass cs
+none-pass [] n e = tt
+none-pass (c ∷ cs) n e = go (c .1) e refl (none-pass cs (n .1))
+  where
+    go : (t : Bool) → cond t (c .0) (firstOf cs) ≡ 0 → c .1 ≡ t → (firstOf cs ≡ 0 → NonePass cs) → (c .1 ≡ false) × NonePass cs
+    go true q s rest = let z : 0 < c .0 = n .0 in absurd (omega arith)
+    go false q s rest = (s, rest q)
