@@ -1,6 +1,5 @@
 -- Readings and ticks (01, "What the build holds" and "Numbers"). Assumes nothing.
-use mathlib.Core.Bool.{Bool, cond, not}
-use mathlib.Core.List.{[], _∷_}
+use mathlib.Core.Bool.{cond}
 use Prim.Native.Nat.{ℕ, _+_, _-_}
 use lib.Dec.{leb}
 use Rattle.clock.specs.declared.Reading.{Reading}

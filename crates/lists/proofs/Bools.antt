@@ -37,6 +37,11 @@ pub or-cases : (a b : Bool) → (a || b) ≡ true → (a ≡ true) ⊎ (b ≡ tr
 or-cases true b e = inl refl
 or-cases false b e = inr e
 
+pub or-swap : (a b c : Bool) → (a || (b || c)) ≡ (b || (a || c))
+or-swap true true c = refl
+or-swap true false c = refl
+or-swap false b c = refl
+
 -- a number that is taken only where the test passes, and one that is taken only where it fails
 pub then-le : (t : Bool) {x k : ℕ} → (t ≡ true → x ≤ k) → cond t x 0 ≤ k
 then-le true f = f refl

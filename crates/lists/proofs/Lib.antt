@@ -2,6 +2,7 @@
 pub mod Bools
 pub mod TestLaws
 pub mod SearchLaws
+pub mod CountLaws
 pub mod Loops
 pub mod Places
 pub mod Order

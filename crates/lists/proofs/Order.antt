@@ -1,6 +1,6 @@
 -- Rising lists stay rising: when one is put in under a new name, and when some are kept. Assumes nothing.
 use mathlib.Core.Path.{_≡_, refl}
-use mathlib.Core.Bool.{Bool, true, false, cond, _&&_, _||_}
+use mathlib.Core.Bool.{Bool, true, false, cond}
 use mathlib.Core.List.{List, [], _∷_}
 use Rattle.lists.specs.Lists.{any, risingFrom, rising, insert, keep}
 use Rattle.lists.proofs.Bools.{and-left, and-right, or-left, or-right}

@@ -15,6 +15,10 @@ use Rattle.lists.proofs.Bools.{false-unless, and-left, and-right, or-le
 below-suc : {i n : ℕ} → i < suc n → (i ≡ n) ⊎ (i < n)
 below-suc h = eq-or-lt-of-le (le-of-suc-le-suc h)
 
+-- after the last turn of a loop that counts i up to n, what a search found below i it found below n
+pub at-end : {A : Type 0} (found : ℕ → A) {t : A} {i n : ℕ} → i ≤ n → n ≤ i → t ≡ found i → t ≡ found n
+at-end found h l e = e ∙ ap found (le-antisymm h l)
+
 module _ (f : ℕ → Bool) where
   -- ---- some
 

@@ -1,9 +1,11 @@
 -- The laws of lists of tests. Assumes nothing.
-use mathlib.Core.Path.{_≡_, refl, ap, _∙_}
-use mathlib.Core.Bool.{Bool, true, false, cond, _&&_, _||_}
+use mathlib.Core.Path.{_≡_, refl, sym, ap, _∙_}
+use mathlib.Core.Bool.{Bool, true, false, cond, _&&_, _||_, and-assoc, and-true, or-assoc, or-false}
 use mathlib.Core.List.{List, [], _∷_}
 use Prim.Native.Nat.{ℕ, _<_}
 use native.Mathlib.Omega.{arith}
+use borrow.Author.Tests.{ltb-true}
+use lib.Dec.{ltb}
 use Rattle.lists.specs.Tests.{allOf, anyOf, firstOf}
 use Rattle.lists.proofs.Bools.{and-left, and-right, or-left, or-right}
 
@@ -33,9 +35,9 @@ each-none [] e = refl
 each-none (t ∷ ts) e = ap (λ (x : Bool). x || anyOf ts) (e .0) ∙ each-none ts (e .1)
 
 -- every number of the list is above 0, as a refusal's is
-abbrev pub Numbered : List (ℕ × Bool) → Type 0
-Numbered [] = Unit {0}
-Numbered (c ∷ cs) = (0 < c .0) × Numbered cs
+abbrev pub numbered : List (ℕ × Bool) → Bool
+numbered [] = true
+numbered (c ∷ cs) = ltb 0 (c .0) && numbered cs
 
 -- no test of the list passes
 abbrev pub NonePass : List (ℕ × Bool) → Type 0
@@ -43,10 +45,30 @@ NonePass [] = Unit {0}
 NonePass (c ∷ cs) = (c .1 ≡ false) × NonePass cs
 
 -- no refusal: every test of the order of checks failed
-pub none-pass : (cs : List (ℕ × Bool)) → Numbered cs → firstOf cs ≡ 0 → NonePass cs
+pub none-pass : (cs : List (ℕ × Bool)) → numbered cs ≡ true → firstOf cs ≡ 0 → NonePass cs
 none-pass [] n e = tt
-none-pass (c ∷ cs) n e = go (c .1) e refl (none-pass cs (n .1))
+none-pass (c ∷ cs) n e = go (c .1) e refl (none-pass cs (and-right (ltb 0 (c .0)) (numbered cs) n))
   where
     go : (t : Bool) → cond t (c .0) (firstOf cs) ≡ 0 → c .1 ≡ t → (firstOf cs ≡ 0 → NonePass cs) → (c .1 ≡ false) × NonePass cs
-    go true q s rest = let z : 0 < c .0 = n .0 in absurd (omega arith)
+    go true q s rest = let z : 0 < c .0 = ltb-true 0 (c .0) (and-left (ltb 0 (c .0)) (numbered cs) n) in absurd (omega arith)
     go false q s rest = (s, rest q)
+
+-- ---- a chain of `&` or `|`, which code writes from the left, is the list of its tests
+
+abbrev andLeft : Bool → List Bool → Bool
+andLeft a [] = a
+andLeft a (t ∷ ts) = andLeft (a && t) ts
+
+abbrev orLeft : Bool → List Bool → Bool
+orLeft a [] = a
+orLeft a (t ∷ ts) = orLeft (a || t) ts
+
+pub all-chain : (t : Bool) (ts : List Bool) → andLeft t ts ≡ allOf (t ∷ ts)
+unfolding allOf
+all-chain t [] = sym (and-true t)
+all-chain t (u ∷ ts) = all-chain (t && u) ts ∙ and-assoc t u (allOf ts)
+
+pub any-chain : (t : Bool) (ts : List Bool) → orLeft t ts ≡ anyOf (t ∷ ts)
+unfolding anyOf
+any-chain t [] = sym (or-false t)
+any-chain t (u ∷ ts) = any-chain (t || u) ts ∙ or-assoc t u (anyOf ts)

@@ -21,3 +21,8 @@ largest (suc n) f = max (f n) (largest n f)
 unfoldable pub least : ℕ → (ℕ → Bool) → ℕ
 least zero f = 0
 least (suc n) f = cond (f 0) 0 (suc (least n (λ k. f (suc k))))
+
+-- how many numbers below n pass the test
+unfoldable pub count : ℕ → (ℕ → Bool) → ℕ
+count zero f = 0
+count (suc n) f = cond (f n) (suc (count n f)) (count n f)

@@ -1,0 +1,44 @@
+-- The laws of counting: no more than there are, more where more pass, and one where one passes. Assumes nothing.
+use mathlib.Core.Path.{_≡_, refl, sym, ap, _∙_}
+use mathlib.Core.Bool.{Bool, true, false, cond, true≢false, false≢true}
+use mathlib.Core.Logic.{_⊎_, inl, inr}
+use Prim.Native.Nat.{ℕ, zero, suc, _≤_, _<_, zero-le, suc-le-suc}
+use native.Mathlib.Nat.{le-trans, le-suc, le-of-suc-le-suc, not-suc-le-zero, lt-of-le-of-lt, eq-or-lt-of-le}
+use Rattle.lists.specs.Searches.{count}
+
+pub count-le : (n : ℕ) (f : ℕ → Bool) → count n f ≤ n
+unfolding count
+count-le zero f = zero-le
+count-le (suc n) f = go (f n) (count-le n f)
+  where
+    go : (t : Bool) {x : ℕ} → x ≤ n → cond t (suc x) x ≤ suc n
+    go true h = suc-le-suc h
+    go false h = le-trans h (le-suc n)
+
+module _ (f g : ℕ → Bool) (up : (i : ℕ) → f i ≡ true → g i ≡ true) where
+  pub count-up : (n : ℕ) → count n f ≤ count n g
+  unfolding count
+  count-up zero = zero-le
+  count-up (suc n) = go (f n) (g n) (up n) (count-up n)
+    where
+      go : (s t : Bool) → (s ≡ true → t ≡ true) → {x y : ℕ} → x ≤ y → cond s (suc x) x ≤ cond t (suc y) y
+      go true true u h = suc-le-suc h
+      go true false u h = absurd (false≢true (u refl))
+      go false true u {y = y} h = le-trans h (le-suc y)
+      go false false u h = h
+
+  pub count-more : (n i : ℕ) → i < n → f i ≡ false → g i ≡ true → count n f < count n g
+  unfolding count
+  count-more zero i h e d = absurd (not-suc-le-zero h)
+  count-more (suc n) i h e d = go (f n) (g n) (up n) refl refl (eq-or-lt-of-le (le-of-suc-le-suc h)) (λ l. count-more n i l e d)
+    where
+      go : (s t : Bool) → (s ≡ true → t ≡ true) → f n ≡ s → g n ≡ t → (i ≡ n) ⊎ (i < n) → (i < n → count n f < count n g) → cond s (suc (count n f)) (count n f) < cond t (suc (count n g)) (count n g)
+      go true true u p q (inl w) r = absurd (true≢false (sym p ∙ ap f (sym w) ∙ e))
+      go true true u p q (inr w) r = suc-le-suc (r w)
+      go true false u p q w r = absurd (false≢true (u refl))
+      go false true u p q w r = suc-le-suc (count-up n)
+      go false false u p q (inl w) r = absurd (false≢true (sym q ∙ ap g (sym w) ∙ d))
+      go false false u p q (inr w) r = r w
+
+pub count-pos : (n i : ℕ) (f : ℕ → Bool) → i < n → f i ≡ true → 0 < count n f
+count-pos n i f h e = lt-of-le-of-lt zero-le (count-more (λ j. false) f (λ j z. absurd (false≢true z)) n i h refl e)

@@ -1,0 +1,10 @@
+-- What the proofs of several functions use, and the laws for callers: Answers, Survivors, Partings, Limits.
+pub mod Bits
+pub mod Ranges
+pub mod Distances
+mod Masks
+pub mod Connected
+pub mod Answers
+pub mod Survivors
+pub mod Partings
+pub mod Limits
