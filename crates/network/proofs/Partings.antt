@@ -47,9 +47,9 @@ refused-parts p e =
     let few-links = then-at (leb (ones (ls .0)) (L p)) some-hosts (ls .2) in
     let f : Faults = record { hosts = hs .0; links = ls .0 } in
     let b = largest-at (atSurvivor p f) (n p) (n p) some-hosts (few-links .1) in
-    let b-well = else-at (has (hs .0) (b .0)) some-hosts (b .2) in
+    let b-well = else-at (has (hs .0) (b .0)) {x = farthest p f (b .0)} some-hosts (b .2) in
     let a = largest-at (λ x. cond (has (hs .0) x) 0 (distance p f x (b .0))) (n p) (n p) some-hosts (b-well .1) in
-    let a-well = else-at (has (hs .0) (a .0)) some-hosts (a .2) in
+    let a-well = else-at (has (hs .0) (a .0)) {x = distance p f (a .0) (b .0)} some-hosts (a .2) in
     record {
       faults = f;
       set = record { hosts = hs .1; links = ls .1; few-hosts = leb-true _ _ (few-hosts .0); few-links = leb-true _ _ (few-links .0) };

@@ -40,10 +40,7 @@ loop-again c =
       search needs,
       λ a.
           let joins : ℕ → Bool = via (g .p) (g .f) (has (g .near)) a in
-          c .step .ensures a
-          ∙ ap (λ (t : Bool). joins (s .i) || t) (s .inv .1 a)
-          ∙ or-swap (joins (s .i)) (eqb a (g .b)) (some (s .i) joins)
-          ∙ ap (λ (t : Bool). eqb a (g .b) || t) (sym (some-more joins (s .i))),
+          simp (c .step .ensures, s .inv .1, some-more joins (s .i)) (or-swap (joins (s .i)) (eqb a (g .b)) (some (s .i) joins)),
     )
 
 returns : tie.Need-returns Inv-loop μ-loop
