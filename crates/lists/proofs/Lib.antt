@@ -5,3 +5,4 @@ pub mod SearchLaws
 pub mod Loops
 pub mod Places
 pub mod Order
+pub mod ByteLaws
