@@ -6,3 +6,4 @@ pub mod CountLaws
 pub mod Loops
 pub mod Places
 pub mod Order
+pub mod ByteLaws

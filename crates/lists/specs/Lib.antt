@@ -1,3 +1,4 @@
 pub mod Tests
 pub mod Searches
 pub mod Lists
+pub mod Bytes

@@ -1,0 +1,2 @@
+-- The laws of orders, for callers.
+pub mod Laws
