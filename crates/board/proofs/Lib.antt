@@ -1,0 +1,7 @@
+-- What the proofs of several functions use, and the laws for callers: Laws.
+mod Cells
+mod Placing
+mod Boards
+mod Makings
+mod Settling
+pub mod Laws
