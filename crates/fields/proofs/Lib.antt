@@ -1,0 +1,4 @@
+-- The laws of fields, for the proofs here and for callers.
+pub mod Placing
+pub mod Checks
+pub mod Reading
