@@ -2,3 +2,5 @@
 pub mod Placing
 pub mod Checks
 pub mod Reading
+pub mod Parts
+pub mod SlotLaws
