@@ -62,13 +62,18 @@ verdict-one (Wrong f) (Wrong g) e = ap Wrong (sym (named-back f) ∙ ap named e 
 -- ---- the first fault of a run of fields
 
 module _ (at : ℕ) (cs : List (ℕ × Bool)) (fs : List (ℕ × List (ℕ × Bool))) where
-  pub first-here : (n : ℕ) → n ≡ firstOf cs → (n ≡ 0 → ⊥) → (n, at) ≡ first ((at, cs) ∷ fs)
-  unfolding first
-  first-here n e z = rw (← e, ne-eqb n 0 z)
-
-  pub first-next : firstOf cs ≡ 0 → first ((at, cs) ∷ fs) ≡ first fs
+  first-next : firstOf cs ≡ 0 → first ((at, cs) ∷ fs) ≡ first fs
   unfolding first
   first-next e = rw (eq-eqb (firstOf cs) 0 e)
+
+  -- by a verdict on the first of them
+  module _ (v : Verdict) (e : verdict v ≡ firstOf cs) where
+    pub first-wrong : (f : Fault) → v ≡ Wrong f → (fault f, at) ≡ first ((at, cs) ∷ fs)
+    unfolding first
+    first-wrong f w = let n : fault f ≡ firstOf cs = sym (ap verdict w) ∙ e in rw (← n, ne-eqb (fault f) 0 (fault-some f))
+
+    pub first-right : v ≡ Right → first ((at, cs) ∷ fs) ≡ first fs
+    first-right r = first-next (sym e ∙ ap verdict r)
 
 -- no field is at fault
 abbrev pub Clear : List (ℕ × List (ℕ × Bool)) → Type 0

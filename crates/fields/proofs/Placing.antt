@@ -1,13 +1,13 @@
 -- Bytes put at a place: a run of them put one after the other is put at once. Assumes nothing.
 use mathlib.Core.Path.{_≡_, refl, sym, ap, _∙_}
-use mathlib.Core.Bool.{Bool, true, false, not}
-use mathlib.Core.List.{List, [], _∷_, _++_}
+use mathlib.Core.Bool.{Bool, true, false, not, cond}
+use mathlib.Core.List.{List, [], _∷_, _++_, append-nil}
 use Prim.Native.Nat.{ℕ, suc, _+_, _-_, _/_, _%_, _≤_, _<_}
 use native.Mathlib.Nat.{add-zero, zero-add, add-suc, suc-add}
 use native.Mathlib.Omega.{arith}
 use borrow.Author.Tests.{le-leb, lt-leb, leb-true, leb-false, not-true, not-false}
 use lib.Dec.{leb}
-use lib.ListN.{length, set, take, drop, length-append}
+use lib.ListN.{length, set, take, drop, length-append, take-append-drop}
 use lib.Seq.{sets, sets-eq, length-sets}
 use Rattle.lists.specs.Bytes.{be}
 use Rattle.lists.proofs.ByteLaws.{length-be, be-more}
@@ -43,8 +43,13 @@ pub placed-front : (l bs : List ℕ) → length bs ≤ length l → placed l 0 b
 unfolding placed
 placed-front l bs h = rw (zero-add (length bs), le-leb (length bs) (length l) h)
 
-pub placed-none : (l : List ℕ) (at : ℕ) → at ≤ length l → l ≡ placed l at []
-placed-none l at h = placed-sets l at [] (omega arith)
+pub placed-none : (l : List ℕ) (at : ℕ) → l ≡ placed l at []
+unfolding placed
+placed-none l at = go (leb (at + 0) (length l))
+  where
+    go : (t : Bool) → l ≡ cond t (take at l ++ [] ++ drop (at + 0) l) l
+    go true = sym (rw (append-nil (take at l), add-zero at) (take-append-drop at l))
+    go false = refl
 
 -- ---- a run of bytes after another is one run
 

@@ -10,7 +10,7 @@ use lib.ListN.{length, getD, List·getD-eq-default}
 use Rattle.lists.specs.Bytes.{valAt}
 use Rattle.lists.specs.Tests.{firstOf}
 use Rattle.lists.proofs.TestLaws.{none-pass}
-use Rattle.fields.specs.Fields.{statedAt, cut, headChecks, checks}
+use Rattle.fields.specs.Fields.{statedAt, headChecks, valueChecks, checks}
 use Rattle.fields.specs.Faults.{fault, verdict}
 use Rattle.fields.specs.declared.Fault.{Fault}
 use Rattle.fields.specs.declared.Verdict.{Verdict}
@@ -46,26 +46,10 @@ module _ (bs : List ℕ) (at tag : ℕ) (v : Verdict) (e : verdict v ≡ firstOf
   head-right r = head-is bs at tag (sym e ∙ ap verdict r)
 
   module _ (wrongLength wrongValue : Bool) where
-    unfoldable after : List (ℕ × Bool)
-    after = (35, wrongLength) ∷ (36, wrongValue) ∷ []
-
     pub at-head : (f : Fault) → v ≡ Wrong f → verdict v ≡ firstOf (checks bs at tag wrongLength wrongValue)
-    unfolding after
     at-head f w =
-        e ∙ sym (firstOf-left (headChecks bs at tag) after (λ z. fault-some f (sym (ap verdict w) ∙ e ∙ z)))
+        e ∙ sym (firstOf-left (headChecks bs at tag) (valueChecks wrongLength wrongValue) (λ z. fault-some f (sym (ap verdict w) ∙ e ∙ z)))
 
-    past : v ≡ Right → firstOf (checks bs at tag wrongLength wrongValue) ≡ firstOf after
-    unfolding after
-    past r = firstOf-right (headChecks bs at tag) after (omega arith) (sym e ∙ ap verdict r)
-
-    pub at-length : v ≡ Right → wrongLength ≡ true → 35 ≡ firstOf (checks bs at tag wrongLength wrongValue)
-    unfolding after
-    at-length r l = sym (past r ∙ simp l)
-
-    pub at-value : v ≡ Right → wrongLength ≡ false → wrongValue ≡ true → 36 ≡ firstOf (checks bs at tag wrongLength wrongValue)
-    unfolding after
-    at-value r l w = sym (past r ∙ simp (l, w))
-
-    pub at-none : v ≡ Right → wrongLength ≡ false → wrongValue ≡ false → 0 ≡ firstOf (checks bs at tag wrongLength wrongValue)
-    unfolding after
-    at-none r l w = sym (past r ∙ simp (l, w))
+    pub past-head : (n : ℕ) → v ≡ Right → n ≡ firstOf (valueChecks wrongLength wrongValue) → n ≡ firstOf (checks bs at tag wrongLength wrongValue)
+    past-head n r g =
+        g ∙ sym (firstOf-right (headChecks bs at tag) (valueChecks wrongLength wrongValue) (omega arith) (sym e ∙ ap verdict r))

@@ -14,13 +14,13 @@ use Rattle.lists.specs.Tests.{firstOf}
 use Rattle.lists.proofs.Bools.{and-left, and-right}
 use Rattle.lists.proofs.TestLaws.{none-pass}
 use Rattle.lists.proofs.ByteLaws.{Bytes, length-be, part, part-add, be-val, val-be}
-use Rattle.fields.specs.Fields.{field, numberAt, statedAt, headChecks}
+use Rattle.fields.specs.Fields.{field, numberAt, statedAt, valueChecks}
 use Rattle.fields.specs.Slots.{wrongLength, wrongValue, slotChecks, span, filled, slotFields, numbersAt}
 use Rattle.fields.specs.declared.Slot.{Slot}
 use Rattle.fields.specs.declared.Verdict.the-variants.{Right}
 use Rattle.fields.proofs.Checks.{Clear}
 use Rattle.fields.proofs.Placing.{length-field}
-use Rattle.fields.proofs.Reading.{HeadIs, head-is, at-none}
+use Rattle.fields.proofs.Reading.{HeadIs, head-is, past-head}
 use Rattle.fields.proofs.Parts.{field-part, after-head, length-front, front, stated-there, head-there}
 
 -- a slot whose tag is a byte, and whose numbers fit its bytes, 8 at most
@@ -107,8 +107,9 @@ module _ (bs pre post : List ℕ) (at : ℕ) (s : Slot) (x : ℕ) (g : Good s) (
   slot-there =
       let short : length value < 65536 = omega (arith, length-be (s .width) x, g .narrow) in
       let stated : statedAt bs at ≡ s .width = stated-there bs pre post value at (s .tag) e l (g .byte) short ∙ length-be (s .width) x in
-      sym (at-none bs at (s .tag) Right (sym (head-there bs pre post value at (s .tag) e l (g .byte) short)) (wrongLength bs at s) (wrongValue bs at s) refl
-      (simp (eq-eqb _ _ stated)) (simp (number-there, le-leb _ _ low, le-leb _ _ high)))
+      let none : 0 ≡ firstOf (valueChecks (wrongLength bs at s) (wrongValue bs at s)) =
+      simp (eq-eqb _ _ stated, number-there, le-leb _ _ low, le-leb _ _ high) in
+      sym (past-head bs at (s .tag) Right (sym (head-there bs pre post value at (s .tag) e l (g .byte) short)) (wrongLength bs at s) (wrongValue bs at s) 0 refl none)
 
 pub slots-there : (bs pre post : List ℕ) (at : ℕ) (ss : List Slot) (xs : List ℕ) → AllGood ss → Within ss xs → bs ≡ pre ++ (flat (filled ss xs) ++ post) → length pre ≡ at
     → Clear (slotFields bs at ss) × (numbersAt bs at ss ≡ xs)
@@ -125,11 +126,3 @@ slots-there bs pre post at (s ∷ ss) (x ∷ xs) g w e l =
       (slot-there bs pre (r ++ post) at s x (g .0) here l (w .0 .0) (w .0 .1), rest .0),
       ap₂ _∷_ (number-there bs pre (r ++ post) at s x (g .0) here l (w .0 .0) (w .0 .1)) (rest .1),
     )
-
--- as many bytes as the slots have
-pub length-filled : (ss : List Slot) (xs : List ℕ) → Within ss xs → length (flat (filled ss xs)) ≡ span ss
-length-filled [] xs w = refl
-length-filled (s ∷ ss) [] w = absurd w
-length-filled (s ∷ ss) (x ∷ xs) w =
-    length-append (field (s .tag) (be (s .width) x)) (flat (filled ss xs))
-    ∙ omega (arith, length-field (s .tag) (be (s .width) x), length-be (s .width) x, length-filled ss xs (w .1))

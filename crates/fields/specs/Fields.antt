@@ -30,6 +30,10 @@ cut bs at = ltb (length bs) (at + 3 + statedAt bs at)
 abbrev pub headChecks : List ℕ → ℕ → ℕ → List (ℕ × Bool)
 headChecks bs at tag = (33, cut bs at) ∷ (34, not (eqb (getD bs at 0) tag)) ∷ []
 
--- "Within one field the checks run in the order of the numbers": 35 wrong length, 36 value out of range
+-- 35 wrong length, 36 value out of range
+abbrev pub valueChecks : Bool → Bool → List (ℕ × Bool)
+valueChecks wrongLength wrongValue = (35, wrongLength) ∷ (36, wrongValue) ∷ []
+
+-- "Within one field the checks run in the order of the numbers"
 abbrev pub checks : List ℕ → ℕ → ℕ → Bool → Bool → List (ℕ × Bool)
-checks bs at tag wrongLength wrongValue = headChecks bs at tag ++ ((35, wrongLength) ∷ (36, wrongValue) ∷ [])
+checks bs at tag wrongLength wrongValue = headChecks bs at tag ++ valueChecks wrongLength wrongValue

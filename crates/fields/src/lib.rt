@@ -6,6 +6,7 @@ pub use read::byte_at;
 pub use read::head_fault;
 pub use read::slot_fault;
 pub use read::value_at;
+pub use read::value_fault;
 pub use write::put;
 pub use write::put_slot;
 

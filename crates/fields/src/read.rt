@@ -3,7 +3,7 @@ ghost use mathlib.Core.Path.{_≡_};
 ghost use Prim.Native.Nat.{min};
 ghost use lib.ListN.{getD};
 ghost use Rattle.lists.specs.Tests.{firstOf};
-ghost use Rattle.fields.specs.Fields.{numberAt, cut, headChecks};
+ghost use Rattle.fields.specs.Fields.{numberAt, cut, headChecks, valueChecks};
 ghost use Rattle.fields.specs.Faults.{verdict};
 ghost use Rattle.fields.specs.Slots.{slotChecks};
 use crate::Fault;
@@ -79,13 +79,20 @@ pub fn slot_fault(bytes: &[u8], at: usize, slot: Slot) -> Verdict
     if let Verdict::Wrong(_) = head {
         return head;
     }
-    if value_at(bytes, at + 1, 2) != slot.width as u64 {
+    let mismatch = value_at(bytes, at + 1, 2) != slot.width as u64;
+    let x = value_at(bytes, at + 3, slot.width);
+    value_fault(mismatch, !((slot.least <= x) & (x <= slot.largest)))
+}
+
+// What is wrong past the head, by whether the length is another and whether the value is outside its range.
+pub fn value_fault(mismatch: bool, outside: bool) -> Verdict
+    ensures { λ r. ⌜ verdict r ≡ firstOf (valueChecks mismatch outside) ⌝ }
+{
+    if mismatch {
         return Verdict::Wrong(Fault::WrongLength);
     }
-    let x = value_at(bytes, at + 3, slot.width);
-    if (slot.least <= x) & (x <= slot.largest) {
-        Verdict::Right
-    } else {
-        Verdict::Wrong(Fault::WrongValue)
+    if outside {
+        return Verdict::Wrong(Fault::WrongValue);
     }
+    Verdict::Right
 }

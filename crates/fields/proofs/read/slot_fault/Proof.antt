@@ -1,10 +1,8 @@
--- Each return has the tests that the order of checks asks. Assumes nothing.
-use mathlib.Core.Path.{sym, ap, _∙_}
+-- A wrong head is the first fault; past a right one come the two tests. Assumes nothing.
 use native.Mathlib.Omega.{arith}
-use borrow.Author.Tests.{eq-eqb, ne-eqb}
 use denote.Ref.{now}
 use Rattle.fields.specs.Slots.{wrongLength, wrongValue}
-use Rattle.fields.proofs.Reading.{head-right, at-head, at-length, at-value, at-none}
+use Rattle.fields.proofs.Reading.{head-right, at-head, past-head}
 use borrow.Author.Needs.{needs}
 use Rattle.fields.proofs.read.slot_fault.Statement.{statement}
 use Rattle.fields.proofs.read.slot_fault.Tie as tie
@@ -32,41 +30,28 @@ add-value-at c =
 value-at-requires : tie.Need-value-at-requires
 value-at-requires c κs = search needs
 
-cast-if1 : tie.Need-cast-if1
-cast-if1 c = search needs
-
-returns-2 : tie.Need-returns-2
-returns-2 c =
-    let d = c .before .before .before in
-    let a = d .before .before .before .before .args in
-    let bs = now (a .bytes) in
-    at-length bs (a .at) (a .slot .tag) _ (d .before .before .head-fault .ensures) (wrongLength bs (a .at) (a .slot)) (wrongValue bs (a .at) (a .slot))
-    (d .enum-told2 .given .1) (simp (← c .before .before .value-at .ensures, ne-eqb _ _ (c .if1 .taken)))
+cast-mismatch : tie.Need-cast-mismatch
+cast-mismatch c = search needs
 
 add-value-at-2 : tie.Need-add-value-at-2
 add-value-at-2 c =
-    let d = c .before .before .before in
+    let d = c .before .before in
     let a = d .before .before .before .before .args in
     omega (arith, head-right (now (a .bytes)) (a .at) (a .slot .tag) _ (d .before .before .head-fault .ensures) (d .enum-told2 .given .1) .room)
 
 value-at-requires-2 : tie.Need-value-at-requires-2
 value-at-requires-2 c κs = search needs
 
-returns-3 : tie.Need-returns-3
-returns-3 c =
-    let d = c .before .before .before .before .before .before .before in
-    let a = d .before .before .before .before .args in
-    let bs = now (a .bytes) in
-    at-none bs (a .at) (a .slot .tag) _ (d .before .before .head-fault .ensures) (wrongLength bs (a .at) (a .slot)) (wrongValue bs (a .at) (a .slot))
-    (d .enum-told2 .given .1) (simp (← c .before .before .before .before .before .before .value-at .ensures, eq-eqb _ _ (c .before .before .before .before .if1 .left))) (simp (← c .before .before .before .value-at2 .ensures, c .if2 .taken))
+value-fault-requires : tie.Need-value-fault-requires
+value-fault-requires c κs = search needs
 
-returns-4 : tie.Need-returns-4
-returns-4 c =
-    let d = c .before .before .before .before .before .before .before in
+returns-2 : tie.Need-returns-2
+returns-2 c =
+    let d = c .before .before .before .before .before .before in
     let a = d .before .before .before .before .args in
     let bs = now (a .bytes) in
-    at-value bs (a .at) (a .slot .tag) _ (d .before .before .head-fault .ensures) (wrongLength bs (a .at) (a .slot)) (wrongValue bs (a .at) (a .slot))
-    (d .enum-told2 .given .1) (simp (← c .before .before .before .before .before .before .value-at .ensures, eq-eqb _ _ (c .before .before .before .before .if1 .left))) (simp (← c .before .before .before .value-at2 .ensures, c .if2 .left))
+    past-head bs (a .at) (a .slot .tag) _ (d .before .before .head-fault .ensures) (wrongLength bs (a .at) (a .slot)) (wrongValue bs (a .at) (a .slot)) _
+    (d .enum-told2 .given .1) (cc (c .before .before .before .before .before .value-at .ensures, c .before .before .before .value-at2 .ensures, c .value-fault .ensures))
 
 pub slot-fault-spec : {M : Type 1} → statement M
 slot-fault-spec =
@@ -78,9 +63,8 @@ slot-fault-spec =
     enum-told-2
     add-value-at
     value-at-requires
-    cast-if1
-    returns-2
+    cast-mismatch
     add-value-at-2
     value-at-requires-2
-    returns-3
-    returns-4)
+    value-fault-requires
+    returns-2)
