@@ -2,11 +2,12 @@
 use mathlib.Core.Path.{_≡_, refl, sym, ap, _∙_}
 use mathlib.Core.Bool.{Bool, true, false, not, cond}
 use mathlib.Core.List.{List, [], _∷_, _++_}
-use Prim.Native.Nat.{ℕ, _+_, _≤_}
+use Prim.Native.Nat.{ℕ, _+_, _-_, _≤_, _<_}
+use native.Mathlib.Nat.{le-antisymm, zero-add, add-sub-cancel-left}
 use native.Mathlib.Omega.{arith}
-use borrow.Author.Tests.{eq-eqb, ne-eqb, eqb-true, ltb-false, not-false}
+use borrow.Author.Tests.{eq-eqb, ne-eqb, eqb-true, lt-ltb, le-ltb, ltb-false, not-false}
 use lib.Dec.{eqb, ltb}
-use lib.ListN.{length, getD}
+use lib.ListN.{length, getD, take, drop}
 use Rattle.lists.specs.Tests.{firstOf}
 use Rattle.lists.specs.Bytes.{valAt}
 use Rattle.lists.proofs.ByteLaws.{val-one}
@@ -14,14 +15,16 @@ use Rattle.lists.proofs.TestLaws.{none-pass}
 use Rattle.orders.specs.Orders.{orderOf}
 use Rattle.orders.specs.Rules.{isRules}
 use Rattle.orders.specs.declared.Order.{Order}
-use Rattle.fields.specs.Faults.{fault, first}
+use Rattle.fields.specs.Faults.{fault, verdict, first}
 use Rattle.fields.specs.Fields.{numberAt, statedAt}
 use Rattle.fields.specs.Slots.{slotChecks, slotFields, numbersAt}
 use Rattle.fields.specs.declared.Fault.{Fault}
-use Rattle.fields.proofs.Checks.{Clear, first-clear, clear-right, fault-some}
-use Rattle.fields.proofs.Reading.{HeadIs, head-is}
-use Rattle.message.specs.Layout.{hopSlot, slots, orderPlace, orderChecks, ending, messageFields, foundAt}
-use Rattle.message.specs.Calls.{nothing, answer, readRefusal, readOf}
+use Rattle.fields.specs.declared.Fault.the-variants.{LeftOver}
+use Rattle.fields.specs.declared.Verdict.{Verdict}
+use Rattle.fields.specs.declared.Verdict.the-variants.{Right, Wrong}
+use Rattle.fields.proofs.Checks.{first-wrong, first-right, Clear, first-clear, clear-right, fault-some}
+use Rattle.message.specs.Layout.{stampSlot, sourceSlot, hopSlot, slots, orderPlace, orderChecks, ending, messageFields, foundAt}
+use Rattle.message.specs.Calls.{nothing, readRefusal, readOf, partOf, placeOf}
 use Rattle.message.specs.declared.Found.{Found}
 
 -- the fields after stamp and source
@@ -33,6 +36,66 @@ second-rules rules bs e = simp e
 
 pub first-rules : (rules : ℕ) (bs : List ℕ) → eqb rules 2 ≡ false → after-source rules bs ≡ ending bs 15
 first-rules rules bs e = simp e
+
+-- the verdicts in their order: t on the stamp, s on the source, h on the hop
+module _ (rules : ℕ) (bs : List ℕ) (t : Verdict) (stamp : verdict t ≡ firstOf (slotChecks bs 0 stampSlot)) where
+  pub stamp-wrong : (f : Fault) → t ≡ Wrong f → (fault f, 0) ≡ first (messageFields rules bs)
+  stamp-wrong = first-wrong 0 (slotChecks bs 0 stampSlot) ((11, slotChecks bs 11 sourceSlot) ∷ after-source rules bs) t stamp
+
+  module _ (right : t ≡ Right) (s : Verdict) (source : verdict s ≡ firstOf (slotChecks bs 11 sourceSlot)) where
+    past-stamp : first (messageFields rules bs) ≡ first ((11, slotChecks bs 11 sourceSlot) ∷ after-source rules bs)
+    past-stamp = first-right 0 (slotChecks bs 0 stampSlot) ((11, slotChecks bs 11 sourceSlot) ∷ after-source rules bs) t stamp right
+
+    pub source-wrong : (f : Fault) → s ≡ Wrong f → (fault f, 11) ≡ first (messageFields rules bs)
+    source-wrong f w = first-wrong 11 (slotChecks bs 11 sourceSlot) (after-source rules bs) s source f w ∙ sym past-stamp
+
+    module _ (also : s ≡ Right) where
+      past-source : first (messageFields rules bs) ≡ first (after-source rules bs)
+      past-source = past-stamp ∙ first-right 11 (slotChecks bs 11 sourceSlot) (after-source rules bs) s source also
+
+      pub order-first : eqb rules 2 ≡ false → first (ending bs 15) ≡ first (messageFields rules bs)
+      order-first e = sym (past-source ∙ ap first (first-rules rules bs e))
+
+      module _ (e : eqb rules 2 ≡ true) (h : Verdict) (hop : verdict h ≡ firstOf (slotChecks bs 15 hopSlot)) where
+        to-hop : first (messageFields rules bs) ≡ first ((15, slotChecks bs 15 hopSlot) ∷ ending bs 19)
+        to-hop = past-source ∙ ap first (second-rules rules bs e)
+
+        pub hop-wrong : (f : Fault) → h ≡ Wrong f → (fault f, 15) ≡ first (messageFields rules bs)
+        hop-wrong f w = first-wrong 15 (slotChecks bs 15 hopSlot) (ending bs 19) h hop f w ∙ sym to-hop
+
+        pub order-second : h ≡ Right → first (ending bs 19) ≡ first (messageFields rules bs)
+        order-second r = sym (to-hop ∙ first-right 15 (slotChecks bs 15 hopSlot) (ending bs 19) h hop r)
+
+-- the last field: v on the order, which stops at n
+module _ (bs : List ℕ) (at : ℕ) (v : Verdict) (order : verdict v ≡ firstOf (orderChecks bs at)) where
+  abbrev stop : ℕ
+  stop = at + 3 + statedAt bs at
+
+  abbrev no-more : List (ℕ × Bool)
+  no-more = (37, ltb stop (length bs)) ∷ []
+
+  pub order-wrong : (f : Fault) → v ≡ Wrong f → (fault f, at) ≡ first (ending bs at)
+  order-wrong = first-wrong at (orderChecks bs at) ((stop, no-more) ∷ []) v order
+
+  module _ (right : v ≡ Right) where
+    pub order-room : at + 3 + statedAt bs at ≤ length bs
+    order-room =
+        let p = none-pass (orderChecks bs at) (omega arith) (sym order ∙ ap verdict right) in
+        ltb-false (length bs) stop (p .0)
+
+    past-order : first (ending bs at) ≡ first ((stop, no-more) ∷ [])
+    past-order = first-right at (orderChecks bs at) ((stop, no-more) ∷ []) v order right
+
+    module _ (n : ℕ) (e : n ≡ stop) where
+      pub left-over : n < length bs → (37, n) ≡ first (ending bs at)
+      left-over h =
+          ap (λ (k : ℕ). (37, k)) e
+          ∙ first-wrong stop no-more [] (Wrong LeftOver) (simp (lt-ltb stop (length bs) (omega arith))) LeftOver refl
+          ∙ sym past-order
+
+      pub none-left : length bs ≤ n → (0, 0) ≡ first (ending bs at)
+      unfolding first
+      none-left h = sym (past-order ∙ simp (le-ltb stop (length bs) (omega arith)))
 
 -- ---- what reading answers
 
@@ -63,23 +126,37 @@ read-is rules bs f e =
       found = sym (ap (λ (a : ℕ × Found). a .1) e) ∙ ap (λ (b : Bool). cond b (foundAt rules bs) nothing) (eq-eqb (readRefusal rules bs) 0 zero);
     }
 
--- ---- the last field, and that nothing follows it
+-- ---- the message ends with its order
 
 pub record EndIs (bs : List ℕ) (at : ℕ) : Type 0 where
-  pub head : HeadIs bs at 4
   pub order : firstOf (orderChecks bs at) ≡ 0
-  pub whole : length bs ≡ at + 3 + statedAt bs at
-
-pub end-is : (bs : List ℕ) (at : ℕ) → Clear (ending bs at) → EndIs bs at
-end-is bs at c =
-    let p = none-pass (orderChecks bs at) (omega arith) (c .0) in
-    let stop : ℕ = at + 3 + statedAt bs at in
-    let q = none-pass ((37, ltb stop (length bs)) ∷ []) (omega arith) (c .1 .0) in
-    let h = head-is bs at 4 (simp (p .0, p .1 .0)) in
-    record { head = h; order = c .0; whole = omega (arith, ltb-false stop (length bs) (q .0), h .room) }
+  pub whole : at + 3 + statedAt bs at ≡ length bs
 
 pub read-end : (rules : ℕ) (bs : List ℕ) (f : Found) → ReadIs rules bs f → EndIs bs (orderPlace rules)
-read-end rules bs f r = end-is bs (orderPlace rules) (clear-right (slotFields bs 0 (slots rules)) (ending bs (orderPlace rules)) (r .clear))
+read-end rules bs f r =
+    let at : ℕ = orderPlace rules in
+    let c = clear-right (slotFields bs 0 (slots rules)) (ending bs at) (r .clear) in
+    let q = none-pass (no-more bs at Right (sym (c .0))) (omega arith) (c .1 .0) in
+    record {
+      order = c .0;
+      whole = le-antisymm (order-room bs at Right (sym (c .0)) refl) (ltb-false (at + 3 + statedAt bs at) (length bs) (q .0));
+    }
+
+pub read-room : (rules : ℕ) (bs : List ℕ) (f : Found) → (0, f) ≡ readOf rules bs → f .start + f .size ≡ length bs
+read-room rules bs f e =
+    let r = read-is rules bs f (sym e) in
+    ap (λ (g : Found). g .start + g .size) (r .found) ∙ read-end rules bs f r .whole
+
+-- ---- the order's part, of what was read and of nothing
+
+module _ (p : ℕ × ℕ) (rules : ℕ) (bs : List ℕ) where
+  pub part-is : (f : Found) → (0, f) ≡ readOf rules bs
+      → ((p .0, f .start + p .1) ≡ placeOf p (readOf rules bs)) × (take (f .start + f .size - f .start) (drop (f .start) bs) ≡ partOf bs (readOf rules bs))
+  part-is f e =
+      (ap (placeOf p) e, ap (λ (n : ℕ). take n (drop (f .start) bs)) (add-sub-cancel-left (f .start) (f .size)) ∙ ap (partOf bs) e)
+
+  pub no-part : (n : ℕ) → (n, nothing) ≡ readOf rules bs → (p ≡ placeOf p (readOf rules bs)) × ([] ≡ partOf bs (readOf rules bs))
+  no-part n e = (ap (λ (k : ℕ). (p .0, k)) (sym (zero-add (p .1))) ∙ ap (placeOf p) e, ap (partOf bs) e)
 
 -- ---- what stands in the slots, taken from its places
 

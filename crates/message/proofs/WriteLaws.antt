@@ -1,20 +1,21 @@
 -- How long a message is, its fields one after the other, and what writing answers and leaves. Assumes nothing.
 use mathlib.Core.Path.{_≡_, refl, sym, ap, _∙_}
-use mathlib.Core.Bool.{Bool, true, false, cond}
+use mathlib.Core.Bool.{Bool, true, false, cond, _&&_, and-assoc, and-true}
 use mathlib.Core.List.{List, [], _∷_, _++_}
 use Prim.Native.Nat.{ℕ, _+_, _<_, _≤_}
 use native.Mathlib.Omega.{arith}
-use borrow.Author.Tests.{lt-ltb, le-ltb}
+use borrow.Author.Tests.{lt-ltb, le-ltb, eq-eqb, ne-eqb}
 use lib.Dec.{eqb}
 use lib.ListN.{length, drop, length-append}
 use Rattle.lists.specs.Bytes.{be}
 use Rattle.lists.specs.Lists.{flat}
-use Rattle.orders.specs.Orders.{orderBytes, sizeOf, kindOf}
+use Rattle.lists.specs.Tests.{allOf}
+use Rattle.orders.specs.Orders.{orderBytes, kindOf, imageOf, shareOf}
 use Rattle.orders.specs.declared.Order.{Order}
 use Rattle.orders.proofs.Laws.{size-bytes}
 use Rattle.fields.specs.Fields.{field, placed}
 use Rattle.fields.specs.Slots.{span, filled}
-use Rattle.fields.proofs.Placing.{placed-front, length-field}
+use Rattle.fields.proofs.Placing.{placed-front, placed-then, length-field}
 use Rattle.message.specs.Layout.{stampSlot, sourceSlot, hopSlot, layout, orderPlace}
 use Rattle.message.specs.Calls.{inRange, written, writtenTo}
 use Rattle.message.specs.declared.Message.{Message}
@@ -38,10 +39,10 @@ place-bound false = omega arith
 pub place-small : (rules : ℕ) → orderPlace rules ≤ 19
 place-small rules = omega (arith, place-is rules, place-bound (eqb rules 2))
 
-pub size-small : (o : Order) → length (orderBytes o) ≤ 6
+pub size-small : (o : Order) → (5 ≤ length (orderBytes o)) × (length (orderBytes o) ≤ 6)
 size-small o = go (eqb (kindOf o) 1) (size-bytes o)
   where
-    go : (b : Bool) → length (orderBytes o) ≡ cond b 6 5 → length (orderBytes o) ≤ 6
+    go : (b : Bool) → length (orderBytes o) ≡ cond b 6 5 → (5 ≤ length (orderBytes o)) × (length (orderBytes o) ≤ 6)
     go true e = omega arith
     go false e = omega arith
 
@@ -86,3 +87,53 @@ module _ (rules : ℕ) (m : Message) where
       accepted n out′ l h w =
           let room : length (layout rules m) ≤ length out = omega arith in
           simp (e, le-ltb (length out) (length (layout rules m)) room) (ap (λ (k : ℕ). (0, k)) l, w ∙ placed-front out (layout rules m) room)
+
+-- ---- the order's field, in four runs of bytes or five
+
+module _ (o : Order) (l l1 l2 l3 l4 : List ℕ) (at size kind image : ℕ) (room : at + length (field 4 (orderBytes o)) ≤ length l)
+    (s : size ≡ length (orderBytes o)) (k : kind ≡ kindOf o) (i : image ≡ imageOf o)
+    (p1 : l1 ≡ placed l at (be 1 4)) (p2 : l2 ≡ placed l1 (at + 1) (be 2 size)) (p3 : l3 ≡ placed l2 (at + 3) (be 1 kind)) (p4 : l4 ≡ placed l3 (at + 4) (be 4 image)) where
+  abbrev start : List ℕ
+  start = ((be 1 4 ++ be 2 size) ++ be 1 kind) ++ be 4 image
+
+  start-put : l4 ≡ placed l at start
+  unfolding be
+  start-put =
+      let h : at + 8 ≤ length l = omega (arith, length-field 4 (orderBytes o), size-small o .0) in
+      let two = placed-then l l1 l2 at (at + 1) _ _ p1 p2 refl (omega arith) in
+      let three = placed-then l l2 l3 at (at + 3) _ _ two p3 refl (omega arith) in
+      placed-then l l3 l4 at (at + 4) _ _ three p4 refl (omega arith)
+
+  pub no-share : (kind ≡ 1 → ⊥) → l4 ≡ placed l at (field 4 (orderBytes o))
+  unfolding be field orderBytes
+  no-share e = start-put ∙ rw (s, k, i) (simp (ne-eqb (kindOf o) 1 (λ q. e (k ∙ q))))
+
+  pub with-share : (share : ℕ) (l5 : List ℕ) → kind ≡ 1 → share ≡ shareOf o → l5 ≡ placed l4 (at + 8) (be 1 share) → l5 ≡ placed l at (field 4 (orderBytes o))
+  unfolding be field orderBytes
+  with-share share l5 e q p5 =
+      let one : eqb (kindOf o) 1 ≡ true = eq-eqb (kindOf o) 1 (sym k ∙ e) in
+      let h : at + 9 ≤ length l = omega (arith, rw one at room) in
+      placed-then l l4 l5 at (at + 8) start _ start-put p5 refl (omega arith) ∙ rw (s, k, i, q) (simp one)
+
+-- ---- the message, in four fields
+
+module _ (rules : ℕ) (m : Message) (l l1 l2 l3 l4 : List ℕ) (at : ℕ) (room : length (layout rules m) ≤ length l) (e : at ≡ orderPlace rules)
+    (p1 : l1 ≡ placed l 0 (field 1 (be 8 (m .stamp .0)))) (p2 : l2 ≡ placed l1 11 (field 2 (be 1 (m .source))))
+    (p3 : l3 ≡ placed l2 15 (hop-field (eqb rules 2) (m .hop))) (p4 : l4 ≡ placed l3 at (field 4 (orderBytes (m .order)))) where
+  pub message-put : l4 ≡ placed l 0 (layout rules m)
+  unfolding be field
+  message-put =
+      let front : List ℕ = field 1 (be 8 (m .stamp .0)) ++ field 2 (be 1 (m .source)) in
+      let hop : List ℕ = hop-field (eqb rules 2) (m .hop) in
+      let order : List ℕ = field 4 (orderBytes (m .order)) in
+      let before : length (front ++ hop) ≡ orderPlace rules =
+      length-append front hop ∙ omega (arith, length-hop (eqb rules 2) (m .hop), place-is rules) in
+      let h : orderPlace rules + length order ≤ length l = omega (arith, length-layout rules m, length-field 4 (orderBytes (m .order))) in
+      let two = placed-then l l1 l2 0 11 _ _ p1 p2 refl (omega (arith, length-append front hop)) in
+      let three = placed-then l l2 l3 0 15 front hop two p3 refl (omega (arith, length-append front hop)) in
+      placed-then l l3 l4 0 at (front ++ hop) order three p4 (omega arith) (omega arith) ∙ ap (placed l 0) (fields-are rules m)
+
+-- the tests of the code, in the order of the definition
+pub in-order : (rules stamp source hop share : Bool) → (rules && (stamp && source && hop) && share) ≡ allOf (rules ∷ stamp ∷ source ∷ hop ∷ share ∷ [])
+unfolding allOf
+in-order rules stamp source hop share = simp (and-assoc, and-true)

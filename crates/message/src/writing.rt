@@ -55,7 +55,6 @@ fn put_message(out: &mut [u8], rules: u8, message: Message)
 
 // The hop's field, which the second rules have.
 fn put_hop(out: &mut [u8], rules: u8, hop: u8)
-    requires { ⌜ 15 + length (cond (eqb rules 2) (field 3 (be 1 hop)) []) ≤ length (now out) ⌝ }
     ensures { λ _. ⌜ now (out .exit) ≡ placed (now (out .entry)) 15 (cond (eqb rules 2) (field 3 (be 1 hop)) []) ⌝ }
 {
     if rules == 2 {

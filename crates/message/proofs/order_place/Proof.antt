@@ -2,14 +2,10 @@
 use borrow.Author.Tests.{eq-eqb, ne-eqb}
 use Rattle.message.proofs.order_place.Statement.{statement}
 use Rattle.message.proofs.order_place.Tie as tie
-use Rattle.message.proofs.order_place.Reads as reads
-use Rattle.message.proofs.order_place.Lts as lts
 
--- src/lib.rt:66:1
 returns : tie.Need-returns
 returns c = simp (eq-eqb _ _ (c .if1 .taken))
 
--- src/lib.rt:66:1
 returns-2 : tie.Need-returns-2
 returns-2 c = simp (ne-eqb _ _ (c .if1 .left))
 

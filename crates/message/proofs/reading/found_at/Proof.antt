@@ -8,71 +8,49 @@ use Rattle.message.proofs.ReadLaws.{found-is}
 use borrow.Author.Needs.{needs}
 use Rattle.message.proofs.reading.found_at.Statement.{statement}
 use Rattle.message.proofs.reading.found_at.Tie as tie
-use Rattle.message.proofs.reading.found_at.Reads as reads
-use Rattle.message.proofs.reading.found_at.Lts as lts
-use Rattle.fields.proofs.byte_at.Reads as byte-at-reads
-use Rattle.fields.proofs.value_at.Reads as value-at-reads
-use Rattle.message.proofs.order_place.Reads as order-place-reads
-use Rattle.message.proofs.reading.hop_at.Reads as hop-at-reads
-use Rattle.orders.proofs.order_of.Reads as order-of-reads
 
--- src/reading.rt:115:9
 order-place-requires : tie.Need-order-place-requires
 order-place-requires c κs = search needs
 
--- src/reading.rt:116:17
 add-start : tie.Need-add-start
 add-start c = omega (arith, c .order-place .ensures, place-small (c .before .before .args .rules))
 
--- src/reading.rt:117:41
 add-value-at : tie.Need-add-value-at
 add-value-at c = omega (arith, c .order-place .ensures, place-small (c .before .before .args .rules))
 
--- src/reading.rt:117:17
 value-at-requires : tie.Need-value-at-requires
 value-at-requires c κs = search needs
 
--- src/reading.rt:117:17
 cast-image : tie.Need-cast-image
 cast-image c = let bs = now (c .before .before .before .args .bytes) in omega (arith, c .value-at .ensures, val-lt bs (λ i. c .before .before .shared-slice-known .given i .fits) (c .before .order-place .result + 3 + 1) 4)
 
--- src/reading.rt:118:40
 add-byte-at : tie.Need-add-byte-at
 add-byte-at c = omega (arith, c .before .order-place .ensures, place-small (c .before .before .before .args .rules))
 
--- src/reading.rt:118:9
 byte-at-requires : tie.Need-byte-at-requires
 byte-at-requires c κs = search needs
 
--- src/reading.rt:120:24
 value-at-requires-2 : tie.Need-value-at-requires-2
 value-at-requires-2 c κs = search needs
 
--- src/reading.rt:121:17
 byte-at-requires-2 : tie.Need-byte-at-requires-2
 byte-at-requires-2 c κs = search needs
 
--- src/reading.rt:122:14
 hop-at-requires : tie.Need-hop-at-requires
 hop-at-requires c κs = search needs
 
--- src/reading.rt:123:33
 byte-at-requires-3 : tie.Need-byte-at-requires-3
 byte-at-requires-3 c κs = search needs
 
--- src/reading.rt:123:16
 order-of-requires : tie.Need-order-of-requires
 order-of-requires c κs = search needs
 
--- src/reading.rt:128:39
 add-value-at-2 : tie.Need-add-value-at-2
 add-value-at-2 c = omega (arith, c .before .before .before .before .before .before .before .order-place .ensures, place-small (c .before .before .before .before .before .before .before .before .before .args .rules))
 
--- src/reading.rt:128:15
 value-at-requires-3 : tie.Need-value-at-requires-3
 value-at-requires-3 c κs = search needs
 
--- src/reading.rt:112:1
 returns : tie.Need-returns
 returns c =
     found-is (c .before .before .before .before .before .before .before .before .before .before .args .rules) (now (c .before .before .before .before .before .before .before .before .before .before .args .bytes)) _ _ _ _ _ _ _ _ _ (c .before .before .before .before .before .before .before .before .order-place .ensures) (c .before .before .before .before .before .value-at2 .ensures) (c .before .before .before .before .byte-at2 .ensures) (c .before .before .before .hop-at .ensures)

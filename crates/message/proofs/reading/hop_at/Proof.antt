@@ -3,19 +3,13 @@ use borrow.Author.Tests.{eq-eqb, ne-eqb}
 use borrow.Author.Needs.{needs}
 use Rattle.message.proofs.reading.hop_at.Statement.{statement}
 use Rattle.message.proofs.reading.hop_at.Tie as tie
-use Rattle.message.proofs.reading.hop_at.Reads as reads
-use Rattle.message.proofs.reading.hop_at.Lts as lts
-use Rattle.fields.proofs.byte_at.Reads as byte-at-reads
 
--- src/reading.rt:135:21
 byte-at-requires : tie.Need-byte-at-requires
 byte-at-requires c κs = search needs
 
--- src/reading.rt:132:1
 returns : tie.Need-returns
 returns c = simp (eq-eqb _ _ (c .before .if1 .taken)) (c .byte-at .ensures)
 
--- src/reading.rt:132:1
 returns-2 : tie.Need-returns-2
 returns-2 c = simp (ne-eqb _ _ (c .if1 .left))
 

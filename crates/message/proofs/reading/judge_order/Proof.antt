@@ -1,49 +1,46 @@
+-- The order's own faults come first, and then what follows it. Assumes nothing.
+use Prim.Native.Nat.{_+_, _≤_}
+use native.Mathlib.Omega.{arith}
+use denote.Ref.{now}
+use lib.ListN.{length}
+use Rattle.fields.specs.Fields.{statedAt}
+use Rattle.message.proofs.ReadLaws.{order-wrong, order-room, left-over, none-left}
 use borrow.Author.Needs.{needs}
 use Rattle.message.proofs.reading.judge_order.Statement.{statement}
 use Rattle.message.proofs.reading.judge_order.Tie as tie
-use Rattle.message.proofs.reading.judge_order.Reads as reads
-use Rattle.message.proofs.reading.judge_order.Lts as lts
-use Rattle.fields.proofs.value_at.Reads as value-at-reads
-use Rattle.message.proofs.reading.order_fault.Reads as order-fault-reads
 
--- src/reading.rt:79:9
+room : (c : tie.After-enum-told) → c .before .before .before .before .args .at + 3 + statedAt (now (c .before .before .before .before .args .bytes)) (c .before .before .before .before .args .at) ≤ length (now (c .before .before .before .before .args .bytes))
+room c = order-room _ _ _ (c .before .before .order-fault .ensures) (c .enum-told .given .1)
+
 order-fault-requires : tie.Need-order-fault-requires
 order-fault-requires c κs = search needs
 
--- src/reading.rt:80:27
 enum-known-order : tie.Need-enum-known-order
 enum-known-order c = search needs
 
--- src/reading.rt:81:9
 returns : tie.Need-returns
-returns c = ?
+returns c = let a = c .before .before .before .before .before .args in order-wrong (now (a .bytes)) (a .at) _ (c .before .before .before .order-fault .ensures) _ (c .before .order .given .1)
 
 enum-told : tie.Need-enum-told
 enum-told c = search needs
 
--- src/reading.rt:83:15
 add-end : tie.Need-add-end
-add-end c = ?
+add-end c = omega (arith, room (c))
 
--- src/reading.rt:83:48
 add-value-at : tie.Need-add-value-at
-add-value-at c = ?
+add-value-at c = omega (arith, room (c))
 
--- src/reading.rt:83:24
 value-at-requires : tie.Need-value-at-requires
 value-at-requires c κs = search needs
 
--- src/reading.rt:83:15
 add-end-2 : tie.Need-add-end-2
-add-end-2 c = ?
+add-end-2 c = omega (arith, room (c .before), c .value-at .ensures)
 
--- src/reading.rt:85:9
 returns-2 : tie.Need-returns-2
-returns-2 c = ?
+returns-2 c = let d = c .before .before in let a = d .before .before .before .before .args in left-over (now (a .bytes)) (a .at) _ (d .before .before .order-fault .ensures) (d .enum-told .given .1) _ (omega (arith, c .before .value-at .ensures)) (c .if1 .taken)
 
--- src/reading.rt:76:1
 returns-3 : tie.Need-returns-3
-returns-3 c = ?
+returns-3 c = let d = c .before .before in let a = d .before .before .before .before .args in none-left (now (a .bytes)) (a .at) _ (d .before .before .order-fault .ensures) (d .enum-told .given .1) _ (omega (arith, c .before .value-at .ensures)) (c .if1 .left)
 
 pub judge-order-spec : {M : Type 1} → statement M
 judge-order-spec =

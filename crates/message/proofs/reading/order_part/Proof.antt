@@ -1,61 +1,56 @@
+-- A message ends with its order, so the part lies within it. Assumes nothing.
+use mathlib.Core.Path.{_≡_, sym, ap, _∙_}
+use Prim.Native.Nat.{_+_}
+use native.Mathlib.Omega.{arith}
+use denote.Ref.{now}
+use lib.ListN.{length}
+use Rattle.message.specs.Calls.{readSays}
+use Rattle.message.proofs.ReadLaws.{read-room, part-is, no-part}
 use borrow.Author.Needs.{needs}
 use Rattle.message.proofs.reading.order_part.Statement.{statement}
 use Rattle.message.proofs.reading.order_part.Tie as tie
-use Rattle.message.proofs.reading.order_part.Reads as reads
-use Rattle.message.proofs.reading.order_part.Lts as lts
-use Rattle.message.proofs.reading.read.Reads as read-reads
 
--- src/reading.rt:36:9
+room : (c : tie.After-got) → c .got .given .0 .0 .start + c .got .given .0 .0 .size ≡ length (now (c .before .before .before .before .args .bytes))
+room c = read-room (c .before .before .before .before .args .rules) (now (c .before .before .before .before .args .bytes)) _ (sym (ap readSays (c .got .given .1)) ∙ c .before .before .read .ensures)
+
 read-requires : tie.Need-read-requires
 read-requires c κs = search needs
 
--- src/reading.rt:38:22
 enum-known-got : tie.Need-enum-known-got
 enum-known-got c = search needs
 
--- src/reading.rt:40:23
 add-end : tie.Need-add-end
-add-end c = ?
+add-end c = omega (arith, room (c .before .before))
 
--- src/reading.rt:41:13
 sub-result : tie.Need-sub-result
 sub-result c = search needs
 
--- src/reading.rt:41:13
 part-result-start : tie.Need-part-result-start
 part-result-start c = search needs
 
--- src/reading.rt:41:13
 part-result-end : tie.Need-part-result-end
-part-result-end c = ?
+part-result-end c = let r = room (c .before .before) in omega (arith, r)
 
--- src/reading.rt:43:28
 enum-told : tie.Need-enum-told
 enum-told c = search needs
 
--- src/reading.rt:43:28
 slice-aggregate-result : tie.Need-slice-aggregate-result
 slice-aggregate-result c = search needs
 
--- src/reading.rt:44:29
 enum-told-2 : tie.Need-enum-told-2
 enum-told-2 c = search needs
 
--- src/reading.rt:44:29
 slice-aggregate-result-2 : tie.Need-slice-aggregate-result-2
 slice-aggregate-result-2 c = search needs
 
--- src/reading.rt:33:1
 returns : tie.Need-returns
-returns c = ?
+returns c = let a = c .before .before .before .before .before .before .before .args in part-is (a .bytes .ptr) (a .rules) (now (a .bytes)) _ (sym (ap readSays (c .before .before .before .got .given .1)) ∙ c .before .before .before .before .before .read .ensures)
 
--- src/reading.rt:33:1
 returns-2 : tie.Need-returns-2
-returns-2 c = ?
+returns-2 c = let a = c .before .before .before .before .before .args in no-part (a .bytes .ptr) (a .rules) (now (a .bytes)) 23 (sym (ap readSays (c .before .enum-told .given .1)) ∙ c .before .before .before .read .ensures)
 
--- src/reading.rt:33:1
 returns-3 : tie.Need-returns-3
-returns-3 c = ?
+returns-3 c = let a = c .before .before .before .before .before .args in no-part (a .bytes .ptr) (a .rules) (now (a .bytes)) 30 (sym (ap readSays (c .before .enum-told2 .given .1)) ∙ c .before .before .before .read .ensures)
 
 pub order-part-spec : {M : Type 1} → statement M
 order-part-spec =

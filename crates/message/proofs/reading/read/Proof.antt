@@ -1,43 +1,43 @@
+-- The rule set is judged first, then the bytes. Assumes nothing.
+use mathlib.Core.Path.{sym, ap, _∙_}
+use borrow.Author.Tests.{not-true, not-false}
+use denote.Ref.{now}
+use Rattle.message.specs.Inside.{judged}
+use Rattle.message.specs.declared.Found.{Found}
+use Rattle.message.proofs.ReadLaws.{refused-23, refused-30, accepted}
 use borrow.Author.Needs.{needs}
 use Rattle.message.proofs.reading.read.Statement.{statement}
 use Rattle.message.proofs.reading.read.Tie as tie
-use Rattle.message.proofs.reading.read.Reads as reads
-use Rattle.message.proofs.reading.read.Lts as lts
-use Rattle.message.proofs.reading.found_at.Reads as found-at-reads
-use Rattle.message.proofs.reading.judge.Reads as judge-reads
-use Rattle.orders.proofs.is_rules.Reads as is-rules-reads
 
--- src/reading.rt:22:9
 is-rules-requires : tie.Need-is-rules-requires
 is-rules-requires c κs = search needs
 
--- src/reading.rt:23:9
 returns : tie.Need-returns
-returns c = ?
+returns c = let a = c .before .before .before .args in refused-23 (a .rules) (now (a .bytes)) (sym (c .before .is-rules .ensures) ∙ not-true _ (c .if1 .taken))
 
--- src/reading.rt:25:9
 judge-requires : tie.Need-judge-requires
 judge-requires c κs = search needs
 
--- src/reading.rt:27:50
 enum-told : tie.Need-enum-told
 enum-told c = search needs
 
--- src/reading.rt:28:39
 enum-told-2 : tie.Need-enum-told-2
 enum-told-2 c = search needs
 
--- src/reading.rt:28:39
 found-at-requires : tie.Need-found-at-requires
 found-at-requires c κs = search needs
 
--- src/reading.rt:19:1
 returns-2 : tie.Need-returns-2
-returns-2 c = ?
+returns-2 c =
+    let a = c .before .before .before .before .before .before .args in
+    let told = c .enum-told .given in
+    refused-30 (a .rules) (now (a .bytes)) (sym (c .before .before .before .before .is-rules .ensures) ∙ not-false _ (c .before .before .before .if1 .left)) (told .0 .0) _ (sym (ap judged (told .1)) ∙ c .before .before .judge .ensures)
 
--- src/reading.rt:19:1
 returns-3 : tie.Need-returns-3
-returns-3 c = ?
+returns-3 c =
+    let a = c .before .before .before .before .before .before .before .args in
+    ap (λ (f : Found). (0, f)) (c .found-at .ensures)
+    ∙ accepted (a .rules) (now (a .bytes)) (sym (c .before .before .before .before .before .is-rules .ensures) ∙ not-false _ (c .before .before .before .before .if1 .left)) (sym (ap judged (c .before .enum-told2 .given .1)) ∙ c .before .before .before .judge .ensures)
 
 pub read-spec : {M : Type 1} → statement M
 read-spec =

@@ -1,32 +1,26 @@
+-- The tests are those of the definition. Assumes nothing.
+use lib.Dec.{leb}
+use Rattle.message.specs.Calls.{inRange}
+use Rattle.message.proofs.WriteLaws.{in-order}
 use borrow.Author.Needs.{needs}
 use Rattle.message.proofs.writing.in_range.Statement.{statement}
 use Rattle.message.proofs.writing.in_range.Tie as tie
-use Rattle.message.proofs.writing.in_range.Reads as reads
-use Rattle.message.proofs.writing.in_range.Lts as lts
-use Rattle.clock.proofs.is_stamp.Reads as is-stamp-reads
-use Rattle.orders.proofs.hop_fits.Reads as hop-fits-reads
-use Rattle.orders.proofs.is_rules.Reads as is-rules-reads
-use Rattle.orders.proofs.share_fits.Reads as share-fits-reads
 
--- src/writing.rt:38:23
 is-stamp-requires : tie.Need-is-stamp-requires
 is-stamp-requires c κs = search needs
 
--- src/writing.rt:38:72
 hop-fits-requires : tie.Need-hop-fits-requires
 hop-fits-requires c κs = search needs
 
--- src/writing.rt:39:5
 is-rules-requires : tie.Need-is-rules-requires
 is-rules-requires c κs = search needs
 
--- src/writing.rt:39:45
 share-fits-requires : tie.Need-share-fits-requires
 share-fits-requires c κs = search needs
 
--- src/writing.rt:33:1
 returns : tie.Need-returns
-returns c = ?
+unfolding inRange
+returns c = cc (in-order (c .before .is-rules .result) (c .before .before .before .before .is-stamp .result) (leb (c .before .before .before .before .before .before .args .message .source) 7) (c .before .before .hop-fits .result) (c .share-fits .result))
 
 pub in-range-spec : {M : Type 1} → statement M
 in-range-spec =

@@ -4,23 +4,16 @@ use Rattle.fields.proofs.Placing.{placed-none}
 use borrow.Author.Needs.{needs}
 use Rattle.message.proofs.writing.put_hop.Statement.{statement}
 use Rattle.message.proofs.writing.put_hop.Tie as tie
-use Rattle.message.proofs.writing.put_hop.Reads as reads
-use Rattle.message.proofs.writing.put_hop.Lts as lts
-use Rattle.fields.proofs.put_slot.Reads as put-slot-reads
 
--- src/writing.rt:60:9
 put-slot-requires : tie.Need-put-slot-requires
 put-slot-requires c κs = search needs
 
--- src/writing.rt:55:1
 same-length : tie.Need-same-length
 same-length c = search needs
 
--- src/writing.rt:55:1
 returns : tie.Need-returns
 returns c = simp (eq-eqb _ _ (c .before .before .before .before .if1 .taken)) (c .before .before .put-slot .ensures .1)
 
--- src/writing.rt:55:1
 returns-2 : tie.Need-returns-2
 returns-2 c = simp (ne-eqb _ _ (c .if1 .left)) (placed-none _ 15)
 

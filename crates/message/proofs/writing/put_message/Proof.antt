@@ -1,44 +1,43 @@
+-- The four fields, put one after the other, are the layout. Assumes nothing.
+use native.Mathlib.Omega.{arith}
+use denote.Ref.{now}
+use Rattle.orders.specs.Orders.{orderBytes}
+use Rattle.fields.proofs.Placing.{length-field}
+use Rattle.message.proofs.WriteLaws.{length-layout, message-put}
 use borrow.Author.Needs.{needs}
 use Rattle.message.proofs.writing.put_message.Statement.{statement}
 use Rattle.message.proofs.writing.put_message.Tie as tie
-use Rattle.message.proofs.writing.put_message.Reads as reads
-use Rattle.message.proofs.writing.put_message.Lts as lts
-use Rattle.fields.proofs.put_slot.Reads as put-slot-reads
-use Rattle.message.proofs.order_place.Reads as order-place-reads
-use Rattle.message.proofs.writing.put_hop.Reads as put-hop-reads
-use Rattle.message.proofs.writing.put_order.Reads as put-order-reads
 
--- src/writing.rt:48:5
 put-slot-requires : tie.Need-put-slot-requires
 put-slot-requires c κs = search needs
 
--- src/writing.rt:49:46
 cast-put-slot : tie.Need-cast-put-slot
 cast-put-slot c = search needs
 
--- src/writing.rt:49:5
 put-slot-requires-2 : tie.Need-put-slot-requires-2
 put-slot-requires-2 c κs = search needs
 
--- src/writing.rt:50:5
 put-hop-requires : tie.Need-put-hop-requires
-put-hop-requires c κs = ?
+put-hop-requires c κs = search needs
 
--- src/writing.rt:51:20
 order-place-requires : tie.Need-order-place-requires
 order-place-requires c κs = search needs
 
--- src/writing.rt:51:5
 put-order-requires : tie.Need-put-order-requires
-put-order-requires c κs = ?
+put-order-requires c κs =
+    let a = c .before .before .before .before .before .before .before .before .before .before .before .before .before .before .before .before .before .args in
+    let h = length-layout (a .rules) (a .message) in
+    let f = length-field 4 (orderBytes (a .message .order)) in
+    omega (arith, h, f, c .order-place .ensures, c .before .before .before .before .before .before .before .before .before .before .before .before .before .before .before .before .before .pre, c .before .before .before .before .before .before .before .before .before .before .before .before .before .put-slot .kept .0, c .before .before .before .before .before .before .before .before .put-slot2 .kept .0, c .before .before .before .before .put-hop .kept .0)
 
--- src/writing.rt:42:1
 same-length : tie.Need-same-length
 same-length c = search needs
 
--- src/writing.rt:42:1
 returns : tie.Need-returns
-returns c = ?
+returns c =
+    let a = c .before .before .before .before .before .before .before .before .before .before .before .before .before .before .before .before .before .before .before .before .args in
+    message-put (a .rules) (a .message) (now (a .out)) _ _ _ _ _ (c .before .before .before .before .before .before .before .before .before .before .before .before .before .before .before .before .before .before .before .before .pre) (c .before .before .before .order-place .ensures) (c .before .before .before .before .before .before .before .before .before .before .before .before .before .before .before .before .put-slot .ensures .1)
+    (c .before .before .before .before .before .before .before .before .before .before .before .put-slot2 .ensures .1) (c .before .before .before .before .before .before .before .put-hop .ensures) (c .before .before .put-order .ensures)
 
 pub put-message-spec : {M : Type 1} → statement M
 put-message-spec =

@@ -1,52 +1,57 @@
+-- Refusals in their order; with room the message is put from the first byte on. Assumes nothing.
+use mathlib.Core.Path.{_≡_, sym, _∙_}
+use Prim.Native.Nat.{_+_}
+use native.Mathlib.Omega.{arith}
+use borrow.Author.Tests.{not-true, not-false}
+use denote.Ref.{now}
+use lib.ListN.{length}
+use Rattle.message.specs.Layout.{layout}
+use Rattle.message.proofs.WriteLaws.{place-small, size-small, length-layout, refused-23, refused-22, accepted}
 use borrow.Author.Needs.{needs}
 use Rattle.message.proofs.writing.write.Statement.{statement}
 use Rattle.message.proofs.writing.write.Tie as tie
-use Rattle.message.proofs.writing.write.Reads as reads
-use Rattle.message.proofs.writing.write.Lts as lts
-use Rattle.message.proofs.order_place.Reads as order-place-reads
-use Rattle.message.proofs.writing.in_range.Reads as in-range-reads
-use Rattle.message.proofs.writing.put_message.Reads as put-message-reads
-use Rattle.orders.proofs.size.Reads as size-reads
 
--- src/writing.rt:21:9
+whole : (c : tie.After-size) → c .before .order-place .result + 3 + c .size .result ≡ length (layout (c .before .before .before .before .before .args .rules) (c .before .before .before .before .before .args .message))
+whole c =
+    let a = c .before .before .before .before .before .args in
+    omega (arith, c .before .order-place .ensures, c .size .ensures, length-layout (a .rules) (a .message))
+
 in-range-requires : tie.Need-in-range-requires
 in-range-requires c κs = search needs
 
--- src/writing.rt:22:9
 returns : tie.Need-returns
-returns c = ?
+returns c = let a = c .before .before .before .args in refused-23 (a .rules) (a .message) (now (a .out)) (sym (c .before .in-range .ensures) ∙ not-true _ (c .if1 .taken))
 
--- src/writing.rt:25:13
 order-place-requires : tie.Need-order-place-requires
 order-place-requires c κs = search needs
 
--- src/writing.rt:25:13
 add-n : tie.Need-add-n
-add-n c = ?
+add-n c = omega (arith, c .order-place .ensures, place-small (c .before .before .before .before .args .rules))
 
--- src/writing.rt:25:45
 size-requires : tie.Need-size-requires
 size-requires c κs = search needs
 
--- src/writing.rt:25:13
 add-n-2 : tie.Need-add-n-2
-add-n-2 c = ?
+add-n-2 c = omega (arith, c .before .order-place .ensures, place-small (c .before .before .before .before .before .args .rules), c .size .ensures, size-small (c .before .before .before .before .before .args .message .order) .1)
 
--- src/writing.rt:27:9
 returns-2 : tie.Need-returns-2
-returns-2 c = ?
+returns-2 c =
+    let d = c .before in
+    let a = c .before .before .before .before .before .before .args in
+    let long = whole d in
+    refused-22 (a .rules) (a .message) (now (a .out)) (sym (c .before .before .before .before .in-range .ensures) ∙ not-false _ (c .before .before .before .if1 .left)) (omega arith)
 
--- src/writing.rt:29:5
 put-message-requires : tie.Need-put-message-requires
-put-message-requires c κs = ?
+put-message-requires c κs = omega (arith, whole (c .before .before))
 
--- src/writing.rt:18:1
 same-length : tie.Need-same-length
 same-length c = search needs
 
--- src/writing.rt:18:1
 returns-3 : tie.Need-returns-3
-returns-3 c = ?
+returns-3 c =
+    let d = c .before .before .before .before .before in
+    let a = c .before .before .before .before .before .before .before .before .before .before .args in
+    accepted (a .rules) (a .message) (now (a .out)) (sym (c .before .before .before .before .before .before .before .before .in-range .ensures) ∙ not-false _ (c .before .before .before .before .before .before .before .if1 .left)) _ _ (whole d) (c .before .before .before .before .if2 .left) (c .before .before .put-message .ensures)
 
 pub write-spec : {M : Type 1} → statement M
 write-spec =

@@ -1,0 +1,91 @@
+-- A wrong head is the first fault; past a right one come the two tests. Assumes nothing.
+use mathlib.Core.Bool.{Bool}
+use mathlib.Core.List.{List}
+use Prim.Native.Nat.{ℕ, _+_, _≤_}
+use native.Mathlib.Omega.{arith}
+use denote.Ref.{now}
+use lib.ListN.{length, getD}
+use Rattle.orders.specs.Orders.{wrongSize, wrongValue}
+use Rattle.fields.specs.Fields.{statedAt}
+use Rattle.fields.proofs.Reading.{head-right, at-head, past-head}
+use borrow.Author.Needs.{needs}
+use Rattle.message.proofs.reading.order_fault.Statement.{statement}
+use Rattle.message.proofs.reading.order_fault.Tie as tie
+
+abbrev size-wrong : List ℕ → ℕ → Bool
+size-wrong bs at = wrongSize (getD bs (at + 3) 0) (statedAt bs at)
+
+abbrev value-wrong : List ℕ → ℕ → Bool
+value-wrong bs at = wrongValue (getD bs (at + 3) 0) (getD bs (at + 8) 0)
+
+head : (c : tie.After-enum-told2) → c .before .before .before .before .args .at + 3 + statedAt (now (c .before .before .before .before .args .bytes)) (c .before .before .before .before .args .at) ≤ length (now (c .before .before .before .before .args .bytes))
+head c = head-right _ _ 4 _ (c .before .before .head-fault .ensures) (c .enum-told2 .given .1) .room
+
+head-fault-requires : tie.Need-head-fault-requires
+head-fault-requires c κs = search needs
+
+enum-told : tie.Need-enum-told
+enum-told c = search needs
+
+returns : tie.Need-returns
+returns c =
+    let a = c .before .before .before .before .args in
+    let bs = now (a .bytes) in
+    at-head bs (a .at) 4 _ (c .before .before .head-fault .ensures) (size-wrong bs (a .at)) (value-wrong bs (a .at)) _ (c .enum-told .given .1)
+
+enum-told-2 : tie.Need-enum-told-2
+enum-told-2 c = search needs
+
+add-value-at : tie.Need-add-value-at
+add-value-at c = omega (arith, head (c))
+
+value-at-requires : tie.Need-value-at-requires
+value-at-requires c κs = search needs
+
+add-byte-at : tie.Need-add-byte-at
+add-byte-at c = omega (arith, head (c .before))
+
+byte-at-requires : tie.Need-byte-at-requires
+byte-at-requires c κs = search needs
+
+add-byte-at-2 : tie.Need-add-byte-at-2
+add-byte-at-2 c = omega (arith, head (c .before .before))
+
+byte-at-requires-2 : tie.Need-byte-at-requires-2
+byte-at-requires-2 c κs = search needs
+
+wrong-size-requires : tie.Need-wrong-size-requires
+wrong-size-requires c κs = search needs
+
+wrong-value-requires : tie.Need-wrong-value-requires
+wrong-value-requires c κs = search needs
+
+value-fault-requires : tie.Need-value-fault-requires
+value-fault-requires c κs = search needs
+
+returns-2 : tie.Need-returns-2
+returns-2 c =
+    let d = c .before .before .before .before .before .before in
+    let a = d .before .before .before .before .args in
+    let bs = now (a .bytes) in
+    past-head bs (a .at) 4 _ (d .before .before .head-fault .ensures) (size-wrong bs (a .at)) (value-wrong bs (a .at)) _ (d .enum-told2 .given .1)
+    (cc (c .before .before .before .before .before .value-at .ensures, c .before .before .before .before .byte-at .ensures, c .before .before .before .byte-at2 .ensures, c .before .before .wrong-size .ensures, c .before .wrong-value .ensures, c .value-fault .ensures))
+
+pub order-fault-spec : {M : Type 1} → statement M
+order-fault-spec =
+    tie.close
+    (tie.spec
+    head-fault-requires
+    enum-told
+    returns
+    enum-told-2
+    add-value-at
+    value-at-requires
+    add-byte-at
+    byte-at-requires
+    add-byte-at-2
+    byte-at-requires-2
+    wrong-size-requires
+    wrong-value-requires
+    value-fault-requires
+    returns-2)
