@@ -2,7 +2,7 @@
 use mathlib.Core.Path.{_≡_, refl, sym, ap, _∙_}
 use mathlib.Core.Bool.{Bool, true, false, cond}
 use mathlib.Core.List.{List, [], _∷_, _++_}
-use Prim.Native.Nat.{ℕ, _<_}
+use Prim.Native.Nat.{ℕ}
 use native.Mathlib.Omega.{arith}
 use borrow.Author.Tests.{eq-eqb, ne-eqb, eqb-true, eqb-false}
 use lib.Dec.{eqb}
@@ -40,24 +40,6 @@ fault-some WrongTag e = omega arith
 fault-some WrongLength e = omega arith
 fault-some WrongValue e = omega arith
 fault-some LeftOver e = omega arith
-
-unfoldable named : ℕ → Fault
-named n = cond (eqb n 33) CutShort (cond (eqb n 34) WrongTag (cond (eqb n 35) WrongLength (cond (eqb n 36) WrongValue LeftOver)))
-
-named-back : (f : Fault) → named (fault f) ≡ f
-unfolding named
-named-back CutShort = refl
-named-back WrongTag = refl
-named-back WrongLength = refl
-named-back WrongValue = refl
-named-back LeftOver = refl
-
--- the numbers are one-to-one, so a promise of the number is one of the verdict
-pub verdict-one : (v w : Verdict) → verdict v ≡ verdict w → v ≡ w
-verdict-one Right Right e = refl
-verdict-one Right (Wrong g) e = absurd (fault-some g (sym e))
-verdict-one (Wrong f) Right e = absurd (fault-some f e)
-verdict-one (Wrong f) (Wrong g) e = ap Wrong (sym (named-back f) ∙ ap named e ∙ named-back g)
 
 -- ---- the first fault of a run of fields
 

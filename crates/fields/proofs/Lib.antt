@@ -4,3 +4,4 @@ pub mod Checks
 pub mod Reading
 pub mod Parts
 pub mod SlotLaws
+pub mod One

@@ -1,12 +1,11 @@
 -- A field and the bytes that it stands in, both ways. Assumes nothing.
-use mathlib.Core.Path.{_≡_, refl, sym, ap, subst, _∙_}
-use mathlib.Core.Bool.{Bool, true, false, not}
-use mathlib.Core.List.{List, [], _∷_, _++_, append-assoc}
+use mathlib.Core.Path.{_≡_, sym, ap, _∙_}
+use mathlib.Core.List.{List, _++_, append-assoc}
 use Prim.Native.Nat.{ℕ, _+_, _≤_, _<_}
 use native.Mathlib.Omega.{arith}
 use borrow.Author.Tests.{le-ltb, eq-eqb}
 use lib.ListN.{length, getD, length-append}
-use Rattle.lists.specs.Bytes.{be, valAt}
+use Rattle.lists.specs.Bytes.{be}
 use Rattle.lists.specs.Tests.{firstOf}
 use Rattle.lists.proofs.ByteLaws.{Bytes, length-be, val-one, part, part-add, be-val, val-be}
 use Rattle.fields.specs.Fields.{field, statedAt, headChecks}

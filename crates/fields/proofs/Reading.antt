@@ -1,17 +1,17 @@
 -- What a field that was looked at says of the bytes. Assumes nothing.
 use mathlib.Core.Path.{_≡_, refl, sym, ap, _∙_}
-use mathlib.Core.Bool.{Bool, true, false}
-use mathlib.Core.List.{List, [], _∷_}
-use Prim.Native.Nat.{ℕ, zero, suc, _+_, _*_, _≤_, _<_, zero-le, suc-le-suc}
+use mathlib.Core.Bool.{Bool}
+use mathlib.Core.List.{List}
+use Prim.Native.Nat.{ℕ, zero, suc, _+_, _≤_}
 use native.Mathlib.Omega.{arith}
 use borrow.Author.Tests.{ltb-false, eqb-true, not-false}
-use lib.Dec.{ltb, eqb}
+use lib.Dec.{eqb}
 use lib.ListN.{length, getD, List·getD-eq-default}
 use Rattle.lists.specs.Bytes.{valAt}
 use Rattle.lists.specs.Tests.{firstOf}
 use Rattle.lists.proofs.TestLaws.{none-pass}
 use Rattle.fields.specs.Fields.{statedAt, headChecks, valueChecks, checks}
-use Rattle.fields.specs.Faults.{fault, verdict}
+use Rattle.fields.specs.Faults.{verdict}
 use Rattle.fields.specs.declared.Fault.{Fault}
 use Rattle.fields.specs.declared.Verdict.{Verdict}
 use Rattle.fields.specs.declared.Verdict.the-variants.{Right, Wrong}

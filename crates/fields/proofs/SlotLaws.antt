@@ -1,13 +1,13 @@
 -- A run of slots: what is read from the front writes back to the same bytes, and what was written is read. Assumes nothing.
-use mathlib.Core.Path.{_≡_, refl, sym, ap, ap₂, subst, _∙_}
-use mathlib.Core.Bool.{Bool, true, false, not, _&&_}
+use mathlib.Core.Path.{_≡_, refl, sym, ap, ap₂, _∙_}
+use mathlib.Core.Bool.{true, _&&_}
 use mathlib.Core.List.{List, [], _∷_, _++_, append-assoc}
 use Prim.Native.Nat.{ℕ, _+_, _^_, _≤_, _<_, suc-le-suc, min}
 use native.Mathlib.Nat.{le-trans}
 use native.Mathlib.Omega.{arith}
 use borrow.Author.Tests.{leb-true, le-leb, eqb-true, eq-eqb, not-false}
-use lib.Dec.{leb, eqb}
-use lib.ListN.{length, getD, length-append}
+use lib.Dec.{leb}
+use lib.ListN.{length, length-append}
 use Rattle.lists.specs.Bytes.{be, valAt}
 use Rattle.lists.specs.Lists.{flat}
 use Rattle.lists.specs.Tests.{firstOf}

@@ -1,6 +1,6 @@
 -- Laws for the proofs here, and the theorems of the layout.
 mod WriteLaws
 mod ReadLaws
-pub mod Order
-pub mod Back
+mod OrderLaws
+pub mod RoundTrip
 pub mod One

@@ -9,7 +9,7 @@ use Rattle.clock.specs.Clock.{largestStamp}
 use Rattle.orders.specs.Orders.{shareFits}
 use Rattle.orders.specs.Rules.{isRules, hopFits}
 use Rattle.orders.specs.declared.Order.the-variants.{Publish}
-use Rattle.fields.specs.Faults.{fault, first}
+use Rattle.fields.specs.Faults.{first}
 use Rattle.message.specs.Layout.{layout, messageFields, foundAt}
 use Rattle.message.specs.declared.Message.{Message}
 use Rattle.message.specs.declared.Found.{Found}

@@ -1,6 +1,6 @@
 -- After i turns x is the number in the first i bytes, of which there are 8 at most; past the end all of them are 0. Assumes nothing.
-use mathlib.Core.Path.{_≡_, sym, ap, _∙_}
-use Prim.Native.Nat.{ℕ, _≤_, _<_, _-_, _^_, _+_, _*_, min}
+use mathlib.Core.Path.{_≡_, sym}
+use Prim.Native.Nat.{_≤_, _<_, _-_, _^_, min}
 use native.Mathlib.Omega.{arith}
 use Rattle.lists.specs.Bytes.{valAt}
 use Rattle.lists.proofs.ByteLaws.{val-none, val-more, digit-lt, digit-fits}

@@ -1,12 +1,6 @@
 -- The runs of bytes, put one after the other, are the field. Assumes nothing.
-use mathlib.Core.Path.{_≡_, sym, ap, _∙_}
-use Prim.Native.Nat.{ℕ, _+_}
-use borrow.Author.Tests.{eq-eqb, ne-eqb}
+use mathlib.Core.Path.{sym, _∙_}
 use denote.Ref.{now}
-use lib.ListN.{length}
-use Rattle.lists.specs.Bytes.{be}
-use Rattle.orders.specs.Orders.{kindOf, imageOf, orderBytes}
-use Rattle.fields.specs.Fields.{placed}
 use Rattle.message.proofs.WriteLaws.{no-share, with-share}
 use borrow.Author.Needs.{needs}
 use Rattle.message.proofs.writing.put_order.Statement.{statement}
