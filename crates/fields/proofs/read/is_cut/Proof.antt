@@ -11,10 +11,7 @@ use Rattle.fields.proofs.read.is_cut.Statement.{statement}
 use Rattle.fields.proofs.read.is_cut.Tie as tie
 
 returns : tie.Need-returns
-returns c =
-    let a = c .before .before .args in
-    let bs = now (a .bytes) in
-    sym (lt-ltb (length bs) (a .at + 3 + statedAt bs (a .at)) (omega arith))
+returns c = let a = c .before .before .args in let bs = now (a .bytes) in sym (lt-ltb (length bs) (a .at + 3 + statedAt bs (a .at)) (omega arith))
 
 sub-if2 : tie.Need-sub-if2
 sub-if2 c = search needs

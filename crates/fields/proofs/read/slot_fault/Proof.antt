@@ -15,17 +15,22 @@ enum-told c = search needs
 
 returns : tie.Need-returns
 returns c =
-    let a = c .before .before .before .before .args in
+    let c2 = c .before .before in
+    let c4 = c2 .before .before in
+    let a = c4 .args in
     let bs = now (a .bytes) in
-    at-head bs (a .at) (a .slot .tag) _ (c .before .before .head-fault .ensures) (wrongLength bs (a .at) (a .slot)) (wrongValue bs (a .at) (a .slot)) _ (c .enum-told .given .1)
+    at-head bs (a .at) (a .slot .tag) _ (c2 .head-fault .ensures) (wrongLength bs (a .at) (a .slot)) (wrongValue bs (a .at) (a .slot)) _
+    (c .enum-told .given .1)
 
 enum-told-2 : tie.Need-enum-told-2
 enum-told-2 c = search needs
 
 add-value-at : tie.Need-add-value-at
 add-value-at c =
-    let a = c .before .before .before .before .args in
-    omega (arith, head-right (now (a .bytes)) (a .at) (a .slot .tag) _ (c .before .before .head-fault .ensures) (c .enum-told2 .given .1) .room)
+    let c2 = c .before .before in
+    let c4 = c2 .before .before in
+    let a = c4 .args in
+    omega (arith, head-right (now (a .bytes)) (a .at) (a .slot .tag) _ (c2 .head-fault .ensures) (c .enum-told2 .given .1) .room)
 
 value-at-requires : tie.Need-value-at-requires
 value-at-requires c κs = search needs
@@ -47,11 +52,14 @@ value-fault-requires c κs = search needs
 
 returns-2 : tie.Need-returns-2
 returns-2 c =
-    let d = c .before .before .before .before .before .before in
+    let c3 = c .before .before .before in
+    let c5 = c3 .before .before in
+    let c6 = c5 .before in
+    let d = c6 in
     let a = d .before .before .before .before .args in
     let bs = now (a .bytes) in
-    past-head bs (a .at) (a .slot .tag) _ (d .before .before .head-fault .ensures) (wrongLength bs (a .at) (a .slot)) (wrongValue bs (a .at) (a .slot)) _
-    (d .enum-told2 .given .1) (cc (c .before .before .before .before .before .value-at .ensures, c .before .before .before .value-at2 .ensures, c .value-fault .ensures))
+    past-head bs (a .at) (a .slot .tag) _ (d .before .before .head-fault .ensures) (wrongLength bs (a .at) (a .slot))
+    (wrongValue bs (a .at) (a .slot)) _ (d .enum-told2 .given .1) (cc (c5 .value-at .ensures, c3 .value-at2 .ensures, c .value-fault .ensures))
 
 pub slot-fault-spec : {M : Type 1} → statement M
 slot-fault-spec =

@@ -54,9 +54,7 @@ loop-again c =
     (omega arith, (cc (l .inv .1 .0, c .byte-at .ensures, val-more _ _ (l .i)), digit-lt (l .x) (c .byte-at .result) (l .i) (l .inv .1 .1) (omega arith)))
 
 returns-2 : tie.Need-returns-2 Inv-loop μ-loop
-returns-2 c =
-    let whole : c .before .loop .i ≡ min 8 (c .before .before .before .before .before .args .width) = omega arith in
-    cc
+returns-2 c = let whole : c .before .loop .i ≡ min 8 (c .before .before .before .before .before .args .width) = omega arith in cc
 
 pub value-at-spec : {M : Type 1} → statement M
 value-at-spec =

@@ -26,9 +26,7 @@ abbrev store-below : ℕ → In 1 store-kinds.ps
 store-below t = and 1 store-kinds.ps (falls 1 store-kinds.ps _<_ μ-store t) store.Pre
 
 store-returns : (t : ℕ) → store-lts.Need-returns (store-below t, store.Post) (store-at t) store.Post
-store-returns t c =
-    let a = c .before .before .args in
-    ap (sets (now (a .out)) (a .at)) (sym (be-none (a .width) (a .x) (c .if1 .taken)))
+store-returns t c = let a = c .before .before .args in ap (sets (now (a .out)) (a .at)) (sym (be-none (a .width) (a .x) (c .if1 .taken)))
 
 store-sub-before : (t : ℕ) → store-lts.Need-sub-before (store-below t, store.Post) (store-at t) store.Post
 store-sub-before t c = omega arith
@@ -53,9 +51,10 @@ store-same-length t c = simp length-set (c .before .before .store .kept .0)
 
 store-returns-2 : (t : ℕ) → store-lts.Need-returns-2 (store-below t, store.Post) (store-at t) store.Post
 store-returns-2 t c =
-    let a = c .before .before .before .before .before .before .args in
-    ap (λ (bs : List ℕ). set bs (a .at + (a .width - 1)) (a .x % 256)) (c .before .before .store .ensures)
-    ∙ sets-more _ (a .at) (a .width) (a .x) (omega arith)
+    let c2 = c .before .before in
+    let c6 = c2 .before .before .before .before in
+    let a = c6 .args in
+    ap (λ (bs : List ℕ). set bs (a .at + (a .width - 1)) (a .x % 256)) (c2 .store .ensures) ∙ sets-more _ (a .at) (a .width) (a .x) (omega arith)
 
 pub +store-spec : {M : Type 1} → statement M
 +store-spec =

@@ -32,13 +32,17 @@ has-room-requires c κs = search needs
 
 returns : tie.Need-returns
 returns c =
-    let a = c .before .before .before .before .args in
-    not-put _ (a .at) _ (bytes (a .slot) (a .x)) (long (a .slot) (a .x)) _ (c .before .has-room .ensures) (c .if1 .taken)
+    let c1 = c .before in
+    let c4 = c1 .before .before .before in
+    let a = c4 .args in
+    not-put _ (a .at) _ (bytes (a .slot) (a .x)) (long (a .slot) (a .x)) _ (c1 .has-room .ensures) (c .if1 .taken)
 
 there : (c : tie.Else1) → c .before .before .before .before .args .at + (3 + c .before .before .before .before .args .slot .width) ≤ length (now (c .before .before .before .before .args .out))
 there c =
-    let a = c .before .before .before .before .args in
-    room (now (a .out)) (a .at) _ (bytes (a .slot) (a .x)) (long (a .slot) (a .x)) _ (c .before .has-room .ensures) (c .if1 .left)
+    let c1 = c .before in
+    let c4 = c1 .before .before .before in
+    let a = c4 .args in
+    room (now (a .out)) (a .at) _ (bytes (a .slot) (a .x)) (long (a .slot) (a .x)) _ (c1 .has-room .ensures) (c .if1 .left)
 
 cast-store : tie.Need-cast-store
 cast-store c = search needs
@@ -53,26 +57,37 @@ cast-store-2 : tie.Need-cast-store-2
 cast-store-2 c = search needs
 
 store-requires-2 : tie.Need-store-requires-2
-store-requires-2 c κs = omega (arith, there (c .before .before .before .before .before .before .before), c .before .before .before .before .store .kept .0)
+store-requires-2 c κs =
+    let c4 = c .before .before .before .before in
+    let c7 = c4 .before .before .before in
+    omega (arith, there (c7), c4 .store .kept .0)
 
 add-store-2 : tie.Need-add-store-2
 add-store-2 c = omega (arith, there (c .before .before .before .before .before .before .before .before .before .before .before))
 
 store-requires-3 : tie.Need-store-requires-3
-store-requires-3 c κs = omega (arith, there (c .before .before .before .before .before .before .before .before .before .before .before), c .before .before .before .before .before .before .before .before .store .kept .0, c .before .before .before .store2 .kept .0)
+store-requires-3 c κs =
+    let c3 = c .before .before .before in
+    let c8 = c3 .before .before .before .before .before in
+    let c11 = c8 .before .before .before in
+    omega (arith, there (c11), c8 .store .kept .0, c3 .store2 .kept .0)
 
 same-length : tie.Need-same-length
 same-length c = search needs
 
 returns-2 : tie.Need-returns-2
 returns-2 c =
-    let e = c .before .before .before .before .before .before .before .before .before .before .before .before .before .before in
+    let c2 = c .before .before in
+    let c6 = c2 .before .before .before .before in
+    let c11 = c6 .before .before .before .before .before in
+    let c14 = c11 .before .before .before in
+    let e = c14 in
     let a = e .before .before .before .before .args in
     let s = a .slot in
     let two : a .at + 3 ≡ (a .at + 1) + length (be 2 (s .width)) = omega (arith, length-be 2 (s .width)) in
     let one : a .at + 1 ≡ a .at + length (be 1 (s .tag)) = omega (arith, length-be 1 (s .tag)) in
-    let rest = sets-then _ _ _ _ _ (be 2 (s .width)) (be (s .width) (a .x)) (c .before .before .before .before .before .before .store2 .ensures) (c .before .before .store3 .ensures) two in
-    let all = sets-then _ _ _ (a .at) _ (be 1 (s .tag)) _ (c .before .before .before .before .before .before .before .before .before .before .before .store .ensures) rest one in
+    let rest = sets-then _ _ _ _ _ (be 2 (s .width)) (be (s .width) (a .x)) (c6 .store2 .ensures) (c2 .store3 .ensures) two in
+    let all = sets-then _ _ _ (a .at) _ (be 1 (s .tag)) _ (c11 .store .ensures) rest one in
     was-put _ (a .at) _ (bytes s (a .x)) (long s (a .x)) _ (e .before .has-room .ensures) _ (e .if1 .left)
     (all ∙ ap (sets _ (a .at)) (field-number (s .tag) (s .width) (a .x)))
 

@@ -22,7 +22,12 @@ value-at-requires : tie.Need-value-at-requires
 value-at-requires c κs = search needs
 
 cast-image : tie.Need-cast-image
-cast-image c = let bs = now (c .before .before .before .args .bytes) in omega (arith, c .value-at .ensures, val-lt bs (λ i. c .before .before .shared-slice-known .given i .fits) (c .before .order-place .result + 3 + 1) 4)
+cast-image c =
+    let c1 = c .before in
+    let c2 = c1 .before in
+    let c3 = c2 .before in
+    let bs = now (c3 .args .bytes) in
+    omega (arith, c .value-at .ensures, val-lt bs (λ i. c2 .shared-slice-known .given i .fits) (c1 .order-place .result + 3 + 1) 4)
 
 add-byte-at : tie.Need-add-byte-at
 add-byte-at c = omega (arith, c .before .order-place .ensures, place-small (c .before .before .before .args .rules))
@@ -46,15 +51,27 @@ order-of-requires : tie.Need-order-of-requires
 order-of-requires c κs = search needs
 
 add-value-at-2 : tie.Need-add-value-at-2
-add-value-at-2 c = omega (arith, c .before .before .before .before .before .before .before .order-place .ensures, place-small (c .before .before .before .before .before .before .before .before .before .args .rules))
+add-value-at-2 c =
+    let c7 = c .before .before .before .before .before .before .before in
+    let c9 = c7 .before .before in
+    omega (arith, c7 .order-place .ensures, place-small (c9 .args .rules))
 
 value-at-requires-3 : tie.Need-value-at-requires-3
 value-at-requires-3 c κs = search needs
 
 returns : tie.Need-returns
 returns c =
-    found-is (c .before .before .before .before .before .before .before .before .before .before .args .rules) (now (c .before .before .before .before .before .before .before .before .before .before .args .bytes)) _ _ _ _ _ _ _ _ _ (c .before .before .before .before .before .before .before .before .order-place .ensures) (c .before .before .before .before .before .value-at2 .ensures) (c .before .before .before .before .byte-at2 .ensures) (c .before .before .before .hop-at .ensures)
-    (c .before .before .byte-at3 .ensures) (c .before .before .before .before .before .before .before .value-at .ensures) (c .before .before .before .before .before .before .byte-at .ensures) (c .before .order-of .ensures) (c .value-at3 .ensures)
+    let c1 = c .before in
+    let c2 = c1 .before in
+    let c3 = c2 .before in
+    let c4 = c3 .before in
+    let c5 = c4 .before in
+    let c6 = c5 .before in
+    let c7 = c6 .before in
+    let c8 = c7 .before in
+    let c10 = c8 .before .before in
+    found-is (c10 .args .rules) (now (c10 .args .bytes)) _ _ _ _ _ _ _ _ _ (c8 .order-place .ensures) (c5 .value-at2 .ensures) (c4 .byte-at2 .ensures)
+    (c3 .hop-at .ensures) (c2 .byte-at3 .ensures) (c7 .value-at .ensures) (c6 .byte-at .ensures) (c1 .order-of .ensures) (c .value-at3 .ensures)
 
 pub found-at-spec : {M : Type 1} → statement M
 found-at-spec =

@@ -14,7 +14,12 @@ enum-known-stamp : tie.Need-enum-known-stamp
 enum-known-stamp c = search needs
 
 returns : tie.Need-returns
-returns c = let a = c .before .before .before .before .before .args in stamp-wrong (a .rules) (now (a .bytes)) _ (c .before .before .before .slot-fault .ensures) _ (c .before .stamp .given .1)
+returns c =
+    let c1 = c .before in
+    let c3 = c1 .before .before in
+    let c5 = c3 .before .before in
+    let a = c5 .args in
+    stamp-wrong (a .rules) (now (a .bytes)) _ (c3 .slot-fault .ensures) _ (c1 .stamp .given .1)
 
 enum-told : tie.Need-enum-told
 enum-told c = search needs
@@ -26,7 +31,15 @@ enum-known-source : tie.Need-enum-known-source
 enum-known-source c = search needs
 
 returns-2 : tie.Need-returns-2
-returns-2 c = let a = c .before .before .before .before .before .before .before .before .args in source-wrong (a .rules) (now (a .bytes)) _ (c .before .before .before .before .before .before .slot-fault .ensures) (c .before .before .before .before .enum-told .given .1) _ (c .before .before .before .slot-fault2 .ensures) _ (c .before .source .given .1)
+returns-2 c =
+    let c1 = c .before in
+    let c3 = c1 .before .before in
+    let c4 = c3 .before in
+    let c6 = c4 .before .before in
+    let c8 = c6 .before .before in
+    let a = c8 .args in
+    source-wrong (a .rules) (now (a .bytes)) _ (c6 .slot-fault .ensures) (c4 .enum-told .given .1) _ (c3 .slot-fault2 .ensures) _
+    (c1 .source .given .1)
 
 enum-told-2 : tie.Need-enum-told-2
 enum-told-2 c = search needs
@@ -38,7 +51,18 @@ enum-known-hop : tie.Need-enum-known-hop
 enum-known-hop c = search needs
 
 returns-3 : tie.Need-returns-3
-returns-3 c = let a = c .before .before .before .before .before .before .before .before .before .before .before .before .args in hop-wrong (a .rules) (now (a .bytes)) _ (c .before .before .before .before .before .before .before .before .before .before .slot-fault .ensures) (c .before .before .before .before .before .before .before .before .enum-told .given .1) _ (c .before .before .before .before .before .before .before .slot-fault2 .ensures) (c .before .before .before .before .before .enum-told2 .given .1) (eq-eqb _ _ (c .before .before .before .before .if1 .taken)) _ (c .before .before .before .slot-fault3 .ensures) _ (c .before .hop .given .1)
+returns-3 c =
+    let c1 = c .before in
+    let c3 = c1 .before .before in
+    let c4 = c3 .before in
+    let c5 = c4 .before in
+    let c7 = c5 .before .before in
+    let c8 = c7 .before in
+    let c10 = c8 .before .before in
+    let c12 = c10 .before .before in
+    let a = c12 .args in
+    hop-wrong (a .rules) (now (a .bytes)) _ (c10 .slot-fault .ensures) (c8 .enum-told .given .1) _ (c7 .slot-fault2 .ensures)
+    (c5 .enum-told2 .given .1) (eq-eqb _ _ (c4 .if1 .taken)) _ (c3 .slot-fault3 .ensures) _ (c1 .hop .given .1)
 
 enum-told-3 : tie.Need-enum-told-3
 enum-told-3 c = search needs
@@ -47,13 +71,33 @@ judge-order-requires : tie.Need-judge-order-requires
 judge-order-requires c κs = search needs
 
 returns-4 : tie.Need-returns-4
-returns-4 c = let a = c .before .before .before .before .before .before .before .before .before .before .before .before .args in c .judge-order .ensures ∙ order-second (a .rules) (now (a .bytes)) _ (c .before .before .before .before .before .before .before .before .before .before .slot-fault .ensures) (c .before .before .before .before .before .before .before .before .enum-told .given .1) _ (c .before .before .before .before .before .before .before .slot-fault2 .ensures) (c .before .before .before .before .before .enum-told2 .given .1) (eq-eqb _ _ (c .before .before .before .before .if1 .taken)) _ (c .before .before .before .slot-fault3 .ensures) (c .before .enum-told3 .given .1)
+returns-4 c =
+    let c1 = c .before in
+    let c3 = c1 .before .before in
+    let c4 = c3 .before in
+    let c5 = c4 .before in
+    let c7 = c5 .before .before in
+    let c8 = c7 .before in
+    let c10 = c8 .before .before in
+    let c12 = c10 .before .before in
+    let a = c12 .args in
+    c .judge-order .ensures ∙ order-second (a .rules) (now (a .bytes)) _ (c10 .slot-fault .ensures) (c8 .enum-told .given .1) _
+    (c7 .slot-fault2 .ensures) (c5 .enum-told2 .given .1) (eq-eqb _ _ (c4 .if1 .taken)) _ (c3 .slot-fault3 .ensures) (c1 .enum-told3 .given .1)
 
 judge-order-requires-2 : tie.Need-judge-order-requires-2
 judge-order-requires-2 c κs = search needs
 
 returns-5 : tie.Need-returns-5
-returns-5 c = let a = c .before .before .before .before .before .before .before .before .before .args in c .judge-order2 .ensures ∙ order-first (a .rules) (now (a .bytes)) _ (c .before .before .before .before .before .before .before .slot-fault .ensures) (c .before .before .before .before .before .enum-told .given .1) _ (c .before .before .before .before .slot-fault2 .ensures) (c .before .before .enum-told2 .given .1) (ne-eqb _ _ (c .before .if1 .left))
+returns-5 c =
+    let c1 = c .before in
+    let c2 = c1 .before in
+    let c4 = c2 .before .before in
+    let c5 = c4 .before in
+    let c7 = c5 .before .before in
+    let c9 = c7 .before .before in
+    let a = c9 .args in
+    c .judge-order2 .ensures ∙ order-first (a .rules) (now (a .bytes)) _ (c7 .slot-fault .ensures) (c5 .enum-told .given .1) _
+    (c4 .slot-fault2 .ensures) (c2 .enum-told2 .given .1) (ne-eqb _ _ (c1 .if1 .left))
 
 pub judge-spec : {M : Type 1} → statement M
 judge-spec =

@@ -19,7 +19,12 @@ enum-known-order : tie.Need-enum-known-order
 enum-known-order c = search needs
 
 returns : tie.Need-returns
-returns c = let a = c .before .before .before .before .before .args in order-wrong (now (a .bytes)) (a .at) _ (c .before .before .before .order-fault .ensures) _ (c .before .order .given .1)
+returns c =
+    let c1 = c .before in
+    let c3 = c1 .before .before in
+    let c5 = c3 .before .before in
+    let a = c5 .args in
+    order-wrong (now (a .bytes)) (a .at) _ (c3 .order-fault .ensures) _ (c1 .order .given .1)
 
 enum-told : tie.Need-enum-told
 enum-told c = search needs
@@ -37,10 +42,22 @@ add-end-2 : tie.Need-add-end-2
 add-end-2 c = omega (arith, room (c .before), c .value-at .ensures)
 
 returns-2 : tie.Need-returns-2
-returns-2 c = let d = c .before .before in let a = d .before .before .before .before .args in left-over (now (a .bytes)) (a .at) _ (d .before .before .order-fault .ensures) (d .enum-told .given .1) _ (omega (arith, c .before .value-at .ensures)) (c .if1 .taken)
+returns-2 c =
+    let c1 = c .before in
+    let c2 = c1 .before in
+    let d = c2 in
+    let a = d .before .before .before .before .args in
+    left-over (now (a .bytes)) (a .at) _ (d .before .before .order-fault .ensures) (d .enum-told .given .1) _ (omega (arith, c1 .value-at .ensures))
+    (c .if1 .taken)
 
 returns-3 : tie.Need-returns-3
-returns-3 c = let d = c .before .before in let a = d .before .before .before .before .args in none-left (now (a .bytes)) (a .at) _ (d .before .before .order-fault .ensures) (d .enum-told .given .1) _ (omega (arith, c .before .value-at .ensures)) (c .if1 .left)
+returns-3 c =
+    let c1 = c .before in
+    let c2 = c1 .before in
+    let d = c2 in
+    let a = d .before .before .before .before .args in
+    none-left (now (a .bytes)) (a .at) _ (d .before .before .order-fault .ensures) (d .enum-told .given .1) _ (omega (arith, c1 .value-at .ensures))
+    (c .if1 .left)
 
 pub judge-order-spec : {M : Type 1} → statement M
 judge-order-spec =

@@ -29,9 +29,11 @@ enum-told c = search needs
 
 returns : tie.Need-returns
 returns c =
-    let a = c .before .before .before .before .args in
+    let c2 = c .before .before in
+    let c4 = c2 .before .before in
+    let a = c4 .args in
     let bs = now (a .bytes) in
-    at-head bs (a .at) 4 _ (c .before .before .head-fault .ensures) (size-wrong bs (a .at)) (value-wrong bs (a .at)) _ (c .enum-told .given .1)
+    at-head bs (a .at) 4 _ (c2 .head-fault .ensures) (size-wrong bs (a .at)) (value-wrong bs (a .at)) _ (c .enum-told .given .1)
 
 enum-told-2 : tie.Need-enum-told-2
 enum-told-2 c = search needs
@@ -65,11 +67,17 @@ value-fault-requires c κs = search needs
 
 returns-2 : tie.Need-returns-2
 returns-2 c =
-    let d = c .before .before .before .before .before .before in
+    let c1 = c .before in
+    let c2 = c1 .before in
+    let c3 = c2 .before in
+    let c4 = c3 .before in
+    let c5 = c4 .before in
+    let c6 = c5 .before in
+    let d = c6 in
     let a = d .before .before .before .before .args in
     let bs = now (a .bytes) in
     past-head bs (a .at) 4 _ (d .before .before .head-fault .ensures) (size-wrong bs (a .at)) (value-wrong bs (a .at)) _ (d .enum-told2 .given .1)
-    (cc (c .before .before .before .before .before .value-at .ensures, c .before .before .before .before .byte-at .ensures, c .before .before .before .byte-at2 .ensures, c .before .before .wrong-size .ensures, c .before .wrong-value .ensures, c .value-fault .ensures))
+    (cc (c5 .value-at .ensures, c4 .byte-at .ensures, c3 .byte-at2 .ensures, c2 .wrong-size .ensures, c1 .wrong-value .ensures, c .value-fault .ensures))
 
 pub order-fault-spec : {M : Type 1} → statement M
 order-fault-spec =

@@ -11,7 +11,10 @@ use Rattle.message.proofs.reading.order_part.Statement.{statement}
 use Rattle.message.proofs.reading.order_part.Tie as tie
 
 room : (c : tie.After-got) → c .got .given .0 .0 .start + c .got .given .0 .0 .size ≡ length (now (c .before .before .before .before .args .bytes))
-room c = read-room (c .before .before .before .before .args .rules) (now (c .before .before .before .before .args .bytes)) _ (sym (ap readSays (c .got .given .1)) ∙ c .before .before .read .ensures)
+room c =
+    let c2 = c .before .before in
+    let c4 = c2 .before .before in
+    read-room (c4 .args .rules) (now (c4 .args .bytes)) _ (sym (ap readSays (c .got .given .1)) ∙ c2 .read .ensures)
 
 read-requires : tie.Need-read-requires
 read-requires c κs = search needs
@@ -44,13 +47,28 @@ slice-aggregate-result-2 : tie.Need-slice-aggregate-result-2
 slice-aggregate-result-2 c = search needs
 
 returns : tie.Need-returns
-returns c = let a = c .before .before .before .before .before .before .before .args in part-is (a .bytes .ptr) (a .rules) (now (a .bytes)) _ (sym (ap readSays (c .before .before .before .got .given .1)) ∙ c .before .before .before .before .before .read .ensures)
+returns c =
+    let c3 = c .before .before .before in
+    let c5 = c3 .before .before in
+    let c7 = c5 .before .before in
+    let a = c7 .args in
+    part-is (a .bytes .ptr) (a .rules) (now (a .bytes)) _ (sym (ap readSays (c3 .got .given .1)) ∙ c5 .read .ensures)
 
 returns-2 : tie.Need-returns-2
-returns-2 c = let a = c .before .before .before .before .before .args in no-part (a .bytes .ptr) (a .rules) (now (a .bytes)) 23 (sym (ap readSays (c .before .enum-told .given .1)) ∙ c .before .before .before .read .ensures)
+returns-2 c =
+    let c1 = c .before in
+    let c3 = c1 .before .before in
+    let c5 = c3 .before .before in
+    let a = c5 .args in
+    no-part (a .bytes .ptr) (a .rules) (now (a .bytes)) 23 (sym (ap readSays (c1 .enum-told .given .1)) ∙ c3 .read .ensures)
 
 returns-3 : tie.Need-returns-3
-returns-3 c = let a = c .before .before .before .before .before .args in no-part (a .bytes .ptr) (a .rules) (now (a .bytes)) 30 (sym (ap readSays (c .before .enum-told2 .given .1)) ∙ c .before .before .before .read .ensures)
+returns-3 c =
+    let c1 = c .before in
+    let c3 = c1 .before .before in
+    let c5 = c3 .before .before in
+    let a = c5 .args in
+    no-part (a .bytes .ptr) (a .rules) (now (a .bytes)) 30 (sym (ap readSays (c1 .enum-told2 .given .1)) ∙ c3 .read .ensures)
 
 pub order-part-spec : {M : Type 1} → statement M
 order-part-spec =

@@ -20,7 +20,12 @@ share-fits-requires c κs = search needs
 
 returns : tie.Need-returns
 unfolding inRange
-returns c = cc (in-order (c .before .is-rules .result) (c .before .before .before .before .is-stamp .result) (leb (c .before .before .before .before .before .before .args .message .source) 7) (c .before .before .hop-fits .result) (c .share-fits .result))
+returns c =
+    let c1 = c .before in
+    let c2 = c1 .before in
+    let c4 = c2 .before .before in
+    let c6 = c4 .before .before in
+    cc (in-order (c1 .is-rules .result) (c4 .is-stamp .result) (leb (c6 .args .message .source) 7) (c2 .hop-fits .result) (c .share-fits .result))
 
 pub in-range-spec : {M : Type 1} → statement M
 in-range-spec =

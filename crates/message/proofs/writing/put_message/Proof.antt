@@ -25,19 +25,29 @@ order-place-requires c κs = search needs
 
 put-order-requires : tie.Need-put-order-requires
 put-order-requires c κs =
-    let a = c .before .before .before .before .before .before .before .before .before .before .before .before .before .before .before .before .before .args in
+    let c4 = c .before .before .before .before in
+    let c8 = c4 .before .before .before .before in
+    let c13 = c8 .before .before .before .before .before in
+    let c17 = c13 .before .before .before .before in
+    let a = c17 .args in
     let h = length-layout (a .rules) (a .message) in
     let f = length-field 4 (orderBytes (a .message .order)) in
-    omega (arith, h, f, c .order-place .ensures, c .before .before .before .before .before .before .before .before .before .before .before .before .before .before .before .before .before .pre, c .before .before .before .before .before .before .before .before .before .before .before .before .before .put-slot .kept .0, c .before .before .before .before .before .before .before .before .put-slot2 .kept .0, c .before .before .before .before .put-hop .kept .0)
+    omega (arith, h, f, c .order-place .ensures, c17 .pre, c13 .put-slot .kept .0, c8 .put-slot2 .kept .0, c4 .put-hop .kept .0)
 
 same-length : tie.Need-same-length
 same-length c = search needs
 
 returns : tie.Need-returns
 returns c =
-    let a = c .before .before .before .before .before .before .before .before .before .before .before .before .before .before .before .before .before .before .before .before .args in
-    message-put (a .rules) (a .message) (now (a .out)) _ _ _ _ _ (c .before .before .before .before .before .before .before .before .before .before .before .before .before .before .before .before .before .before .before .before .pre) (c .before .before .before .order-place .ensures) (c .before .before .before .before .before .before .before .before .before .before .before .before .before .before .before .before .put-slot .ensures .1)
-    (c .before .before .before .before .before .before .before .before .before .before .before .put-slot2 .ensures .1) (c .before .before .before .before .before .before .before .put-hop .ensures) (c .before .before .put-order .ensures)
+    let c2 = c .before .before in
+    let c3 = c2 .before in
+    let c7 = c3 .before .before .before .before in
+    let c11 = c7 .before .before .before .before in
+    let c16 = c11 .before .before .before .before .before in
+    let c20 = c16 .before .before .before .before in
+    let a = c20 .args in
+    message-put (a .rules) (a .message) (now (a .out)) _ _ _ _ _ (c20 .pre) (c3 .order-place .ensures) (c16 .put-slot .ensures .1)
+    (c11 .put-slot2 .ensures .1) (c7 .put-hop .ensures) (c2 .put-order .ensures)
 
 pub put-message-spec : {M : Type 1} → statement M
 put-message-spec =

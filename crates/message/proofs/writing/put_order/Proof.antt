@@ -62,18 +62,41 @@ same-length c = search needs
 
 returns : tie.Need-returns
 returns c =
-    let a = c .before .before .before .before .before .before .before .before .before .before .before .before .before .before .before .before .before .before .before .before .before .before .before .before .before .before .before .args in
-    with-share (a .order) (now (a .out)) _ _ _ _ (a .at) _ _ _ (c .before .before .before .before .before .before .before .before .before .before .before .before .before .before .before .before .before .before .before .before .before .before .before .before .before .before .before .pre) (c .before .before .before .before .before .before .before .before .before .before .before .before .before .before .before .before .before .before .before .before .size .ensures) (c .before .before .before .before .before .before .before .before .before .before .before .before .before .before .before .kind .ensures) (c .before .before .before .before .before .before .before .before .before .before .image .ensures) (c .before .before .before .before .before .before .before .before .before .before .before .before .before .before .before .before .before .before .before .before .before .before .before .before .put .ensures .1)
-    (c .before .before .before .before .before .before .before .before .before .before .before .before .before .before .before .before .before .before .before .put2 .ensures .1) (c .before .before .before .before .before .before .before .before .before .before .before .before .before .before .put3 .ensures .1) (c .before .before .before .before .before .before .before .before .before .put4 .ensures .1) _ _ (c .before .before .before .before .before .before .before .before .before .before .before .before .before .before .before .kind .ensures ∙ sym (c .before .before .before .before .before .before .kind2 .ensures) ∙ c .before .before .before .before .before .if1 .taken) (c .before .before .before .share .ensures) (c .before .before .put5 .ensures .1)
+    let c2 = c .before .before in
+    let c3 = c2 .before in
+    let c5 = c3 .before .before in
+    let c6 = c5 .before in
+    let c9 = c6 .before .before .before in
+    let c10 = c9 .before in
+    let c14 = c10 .before .before .before .before in
+    let c15 = c14 .before in
+    let c19 = c15 .before .before .before .before in
+    let c20 = c19 .before in
+    let c24 = c20 .before .before .before .before in
+    let c27 = c24 .before .before .before in
+    let a = c27 .args in
+    with-share (a .order) (now (a .out)) _ _ _ _ (a .at) _ _ _ (c27 .pre) (c20 .size .ensures) (c15 .kind .ensures) (c10 .image .ensures)
+    (c24 .put .ensures .1) (c19 .put2 .ensures .1) (c14 .put3 .ensures .1) (c9 .put4 .ensures .1) _ _
+    (c15 .kind .ensures ∙ sym (c6 .kind2 .ensures) ∙ c5 .if1 .taken) (c3 .share .ensures) (c2 .put5 .ensures .1)
 
 same-length-2 : tie.Need-same-length-2
 same-length-2 c = search needs
 
 returns-2 : tie.Need-returns-2
 returns-2 c =
-    let a = c .before .before .before .before .before .before .before .before .before .before .before .before .before .before .before .before .before .before .before .before .before .before .args in
-    no-share (a .order) (now (a .out)) _ _ _ _ (a .at) _ _ _ (c .before .before .before .before .before .before .before .before .before .before .before .before .before .before .before .before .before .before .before .before .before .before .pre) (c .before .before .before .before .before .before .before .before .before .before .before .before .before .before .before .size .ensures) (c .before .before .before .before .before .before .before .before .before .before .kind .ensures) (c .before .before .before .before .before .image .ensures) (c .before .before .before .before .before .before .before .before .before .before .before .before .before .before .before .before .before .before .before .put .ensures .1)
-    (c .before .before .before .before .before .before .before .before .before .before .before .before .before .before .put2 .ensures .1) (c .before .before .before .before .before .before .before .before .before .put3 .ensures .1) (c .before .before .before .before .put4 .ensures .1) (λ e. c .if1 .left (c .before .kind2 .ensures ∙ sym (c .before .before .before .before .before .before .before .before .before .before .kind .ensures) ∙ e))
+    let c1 = c .before in
+    let c4 = c1 .before .before .before in
+    let c5 = c4 .before in
+    let c9 = c5 .before .before .before .before in
+    let c10 = c9 .before in
+    let c14 = c10 .before .before .before .before in
+    let c15 = c14 .before in
+    let c19 = c15 .before .before .before .before in
+    let c22 = c19 .before .before .before in
+    let a = c22 .args in
+    no-share (a .order) (now (a .out)) _ _ _ _ (a .at) _ _ _ (c22 .pre) (c15 .size .ensures) (c10 .kind .ensures) (c5 .image .ensures)
+    (c19 .put .ensures .1) (c14 .put2 .ensures .1) (c9 .put3 .ensures .1) (c4 .put4 .ensures .1)
+    (λ e. c .if1 .left (c1 .kind2 .ensures ∙ sym (c10 .kind .ensures) ∙ e))
 
 pub put-order-spec : {M : Type 1} → statement M
 put-order-spec =
