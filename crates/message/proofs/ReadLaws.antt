@@ -38,53 +38,52 @@ pub first-rules : (rules : ℕ) (bs : List ℕ) → eqb rules 2 ≡ false → af
 first-rules rules bs e = simp e
 
 -- the verdicts in their order: t on the stamp, s on the source, h on the hop
-module _ (rules : ℕ) (bs : List ℕ) (t : Verdict) (stamp : verdict t ≡ firstOf (slotChecks bs 0 stampSlot)) where
-  pub stamp-wrong : (f : Fault) → t ≡ Wrong f → (fault f, 0) ≡ first (messageFields rules bs)
-  stamp-wrong = first-wrong 0 (slotChecks bs 0 stampSlot) ((11, slotChecks bs 11 sourceSlot) ∷ after-source rules bs) t stamp
+module _ (rules : ℕ) (bs : List ℕ) where
+  module _ (t : Verdict) (stamp : verdict t ≡ firstOf (slotChecks bs 0 stampSlot)) where
+    pub stamp-wrong : (f : Fault) → t ≡ Wrong f → (fault f, 0) ≡ first (messageFields rules bs)
+    stamp-wrong = first-wrong 0 (slotChecks bs 0 stampSlot) ((11, slotChecks bs 11 sourceSlot) ∷ after-source rules bs) t stamp
 
-  module _ (right : t ≡ Right) (s : Verdict) (source : verdict s ≡ firstOf (slotChecks bs 11 sourceSlot)) where
-    past-stamp : first (messageFields rules bs) ≡ first ((11, slotChecks bs 11 sourceSlot) ∷ after-source rules bs)
-    past-stamp = first-right 0 (slotChecks bs 0 stampSlot) ((11, slotChecks bs 11 sourceSlot) ∷ after-source rules bs) t stamp right
+    module _ (right : t ≡ Right) (s : Verdict) (source : verdict s ≡ firstOf (slotChecks bs 11 sourceSlot)) where
+      past-stamp : first (messageFields rules bs) ≡ first ((11, slotChecks bs 11 sourceSlot) ∷ after-source rules bs)
+      past-stamp = first-right 0 (slotChecks bs 0 stampSlot) ((11, slotChecks bs 11 sourceSlot) ∷ after-source rules bs) t stamp right
 
-    pub source-wrong : (f : Fault) → s ≡ Wrong f → (fault f, 11) ≡ first (messageFields rules bs)
-    source-wrong f w = first-wrong 11 (slotChecks bs 11 sourceSlot) (after-source rules bs) s source f w ∙ sym past-stamp
+      pub source-wrong : (f : Fault) → s ≡ Wrong f → (fault f, 11) ≡ first (messageFields rules bs)
+      source-wrong f w = first-wrong 11 (slotChecks bs 11 sourceSlot) (after-source rules bs) s source f w ∙ sym past-stamp
 
-    module _ (also : s ≡ Right) where
-      past-source : first (messageFields rules bs) ≡ first (after-source rules bs)
-      past-source = past-stamp ∙ first-right 11 (slotChecks bs 11 sourceSlot) (after-source rules bs) s source also
+      pub past-source : s ≡ Right → first (messageFields rules bs) ≡ first (after-source rules bs)
+      past-source r = past-stamp ∙ first-right 11 (slotChecks bs 11 sourceSlot) (after-source rules bs) s source r
 
-      pub order-first : eqb rules 2 ≡ false → first (ending bs 15) ≡ first (messageFields rules bs)
-      order-first e = sym (past-source ∙ ap first (first-rules rules bs e))
+  module _ (past : first (messageFields rules bs) ≡ first (after-source rules bs)) where
+    pub order-first : eqb rules 2 ≡ false → first (ending bs 15) ≡ first (messageFields rules bs)
+    order-first e = sym (past ∙ ap first (first-rules rules bs e))
 
-      module _ (e : eqb rules 2 ≡ true) (h : Verdict) (hop : verdict h ≡ firstOf (slotChecks bs 15 hopSlot)) where
-        to-hop : first (messageFields rules bs) ≡ first ((15, slotChecks bs 15 hopSlot) ∷ ending bs 19)
-        to-hop = past-source ∙ ap first (second-rules rules bs e)
+    module _ (e : eqb rules 2 ≡ true) (h : Verdict) (hop : verdict h ≡ firstOf (slotChecks bs 15 hopSlot)) where
+      to-hop : first (messageFields rules bs) ≡ first ((15, slotChecks bs 15 hopSlot) ∷ ending bs 19)
+      to-hop = past ∙ ap first (second-rules rules bs e)
 
-        pub hop-wrong : (f : Fault) → h ≡ Wrong f → (fault f, 15) ≡ first (messageFields rules bs)
-        hop-wrong f w = first-wrong 15 (slotChecks bs 15 hopSlot) (ending bs 19) h hop f w ∙ sym to-hop
+      pub hop-wrong : (f : Fault) → h ≡ Wrong f → (fault f, 15) ≡ first (messageFields rules bs)
+      hop-wrong f w = first-wrong 15 (slotChecks bs 15 hopSlot) (ending bs 19) h hop f w ∙ sym to-hop
 
-        pub order-second : h ≡ Right → first (ending bs 19) ≡ first (messageFields rules bs)
-        order-second r = sym (to-hop ∙ first-right 15 (slotChecks bs 15 hopSlot) (ending bs 19) h hop r)
+      pub order-second : h ≡ Right → first (ending bs 19) ≡ first (messageFields rules bs)
+      order-second r = sym (to-hop ∙ first-right 15 (slotChecks bs 15 hopSlot) (ending bs 19) h hop r)
 
--- the last field: v on the order, which stops at n
-module _ (bs : List ℕ) (at : ℕ) (v : Verdict) (order : verdict v ≡ firstOf (orderChecks bs at)) where
+-- the last field, and what follows it
+module _ (bs : List ℕ) (at : ℕ) where
   abbrev stop : ℕ
   stop = at + 3 + statedAt bs at
 
   abbrev no-more : List (ℕ × Bool)
   no-more = (37, ltb stop (length bs)) ∷ []
 
-  pub order-wrong : (f : Fault) → v ≡ Wrong f → (fault f, at) ≡ first (ending bs at)
-  order-wrong = first-wrong at (orderChecks bs at) ((stop, no-more) ∷ []) v order
+  pub order-wrong : (v : Verdict) → verdict v ≡ firstOf (orderChecks bs at) → (f : Fault) → v ≡ Wrong f → (fault f, at) ≡ first (ending bs at)
+  order-wrong = first-wrong at (orderChecks bs at) ((stop, no-more) ∷ [])
 
-  module _ (right : v ≡ Right) where
+  module _ (order : firstOf (orderChecks bs at) ≡ 0) where
     pub order-room : at + 3 + statedAt bs at ≤ length bs
-    order-room =
-        let p = none-pass (orderChecks bs at) (omega arith) (sym order ∙ ap verdict right) in
-        ltb-false (length bs) stop (p .0)
+    order-room = ltb-false (length bs) stop (none-pass (orderChecks bs at) (omega arith) order .0)
 
     past-order : first (ending bs at) ≡ first ((stop, no-more) ∷ [])
-    past-order = first-right at (orderChecks bs at) ((stop, no-more) ∷ []) v order right
+    past-order = first-right at (orderChecks bs at) ((stop, no-more) ∷ []) Right (sym order) refl
 
     module _ (n : ℕ) (e : n ≡ stop) where
       pub left-over : n < length bs → (37, n) ≡ first (ending bs at)
@@ -136,10 +135,10 @@ pub read-end : (rules : ℕ) (bs : List ℕ) (f : Found) → ReadIs rules bs f �
 read-end rules bs f r =
     let at : ℕ = orderPlace rules in
     let c = clear-right (slotFields bs 0 (slots rules)) (ending bs at) (r .clear) in
-    let q = none-pass (no-more bs at Right (sym (c .0))) (omega arith) (c .1 .0) in
+    let q = none-pass (no-more bs at) (omega arith) (c .1 .0) in
     record {
       order = c .0;
-      whole = le-antisymm (order-room bs at Right (sym (c .0)) refl) (ltb-false (at + 3 + statedAt bs at) (length bs) (q .0));
+      whole = le-antisymm (order-room bs at (c .0)) (ltb-false (stop bs at) (length bs) (q .0));
     }
 
 pub read-room : (rules : ℕ) (bs : List ℕ) (f : Found) → (0, f) ≡ readOf rules bs → f .start + f .size ≡ length bs

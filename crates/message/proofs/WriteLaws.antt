@@ -18,6 +18,7 @@ use Rattle.fields.specs.Slots.{span, filled}
 use Rattle.fields.proofs.Placing.{placed-front, placed-then, length-field}
 use Rattle.message.specs.Layout.{stampSlot, sourceSlot, hopSlot, layout, orderPlace}
 use Rattle.message.specs.Calls.{inRange, written, writtenTo}
+use Rattle.message.specs.Inside.{orderStart}
 use Rattle.message.specs.declared.Message.{Message}
 
 -- ---- by whether there is a hop's field
@@ -88,32 +89,29 @@ module _ (rules : ℕ) (m : Message) where
           let room : length (layout rules m) ≤ length out = omega arith in
           simp (e, le-ltb (length out) (length (layout rules m)) room) (ap (λ (k : ℕ). (0, k)) l, w ∙ placed-front out (layout rules m) room)
 
--- ---- the order's field, in four runs of bytes or five
+-- ---- the order's field: what every one begins with, in four runs of bytes, and a publish's share
 
-module _ (o : Order) (l l1 l2 l3 l4 : List ℕ) (at size kind image : ℕ) (room : at + length (field 4 (orderBytes o)) ≤ length l)
-    (s : size ≡ length (orderBytes o)) (k : kind ≡ kindOf o) (i : image ≡ imageOf o)
-    (p1 : l1 ≡ placed l at (be 1 4)) (p2 : l2 ≡ placed l1 (at + 1) (be 2 size)) (p3 : l3 ≡ placed l2 (at + 3) (be 1 kind)) (p4 : l4 ≡ placed l3 (at + 4) (be 4 image)) where
-  abbrev start : List ℕ
-  start = ((be 1 4 ++ be 2 size) ++ be 1 kind) ++ be 4 image
+pub start-put : (o : Order) (l l1 l2 l3 l4 : List ℕ) (at size kind image : ℕ) → at + 8 ≤ length l
+    → size ≡ length (orderBytes o) → kind ≡ kindOf o → image ≡ imageOf o
+    → l1 ≡ placed l at (be 1 4) → l2 ≡ placed l1 (at + 1) (be 2 size) → l3 ≡ placed l2 (at + 3) (be 1 kind) → l4 ≡ placed l3 (at + 4) (be 4 image)
+    → l4 ≡ placed l at (orderStart o)
+unfolding be
+start-put o l l1 l2 l3 l4 at size kind image h s k i p1 p2 p3 p4 =
+    let two = placed-then l l1 l2 at (at + 1) _ _ p1 p2 refl (omega arith) in
+    let three = placed-then l l2 l3 at (at + 3) _ _ two p3 refl (omega arith) in
+    placed-then l l3 l4 at (at + 4) _ _ three p4 refl (omega arith) ∙ rw (s, k, i) refl
 
-  start-put : l4 ≡ placed l at start
-  unfolding be
-  start-put =
-      let h : at + 8 ≤ length l = omega (arith, length-field 4 (orderBytes o), size-small o .0) in
-      let two = placed-then l l1 l2 at (at + 1) _ _ p1 p2 refl (omega arith) in
-      let three = placed-then l l2 l3 at (at + 3) _ _ two p3 refl (omega arith) in
-      placed-then l l3 l4 at (at + 4) _ _ three p4 refl (omega arith)
-
-  pub no-share : (kind ≡ 1 → ⊥) → l4 ≡ placed l at (field 4 (orderBytes o))
+module _ (o : Order) (l l4 : List ℕ) (at : ℕ) (room : at + length (field 4 (orderBytes o)) ≤ length l) (p : l4 ≡ placed l at (orderStart o)) where
+  pub no-share : (kindOf o ≡ 1 → ⊥) → l4 ≡ placed l at (field 4 (orderBytes o))
   unfolding be field orderBytes
-  no-share e = start-put ∙ rw (s, k, i) (simp (ne-eqb (kindOf o) 1 (λ q. e (k ∙ q))))
+  no-share e = p ∙ simp (ne-eqb (kindOf o) 1 e)
 
-  pub with-share : (share : ℕ) (l5 : List ℕ) → kind ≡ 1 → share ≡ shareOf o → l5 ≡ placed l4 (at + 8) (be 1 share) → l5 ≡ placed l at (field 4 (orderBytes o))
+  pub with-share : (share : ℕ) (l5 : List ℕ) → kindOf o ≡ 1 → share ≡ shareOf o → l5 ≡ placed l4 (at + 8) (be 1 share) → l5 ≡ placed l at (field 4 (orderBytes o))
   unfolding be field orderBytes
   with-share share l5 e q p5 =
-      let one : eqb (kindOf o) 1 ≡ true = eq-eqb (kindOf o) 1 (sym k ∙ e) in
+      let one : eqb (kindOf o) 1 ≡ true = eq-eqb (kindOf o) 1 e in
       let h : at + 9 ≤ length l = omega (arith, rw one at room) in
-      placed-then l l4 l5 at (at + 8) start _ start-put p5 refl (omega arith) ∙ rw (s, k, i, q) (simp one)
+      placed-then l l4 l5 at (at + 8) (orderStart o) _ p p5 refl (omega arith) ∙ rw q (simp one)
 
 -- ---- the message, in four fields
 

@@ -10,6 +10,7 @@ ghost use Rattle.fields.specs.Fields.{field, placed};
 ghost use Rattle.orders.specs.Orders.{orderBytes};
 ghost use Rattle.message.specs.Layout.{layout};
 ghost use Rattle.message.specs.Calls.{inRange, writeSays, written, writtenTo};
+ghost use Rattle.message.specs.Inside.{orderStart};
 use crate::Message;
 use crate::Written;
 use orders::Order;
@@ -62,16 +63,24 @@ fn put_hop(out: &mut [u8], rules: u8, hop: u8)
     }
 }
 
-// Field 4: kind, image, and for a publish the share.
+// Field 4.
 fn put_order(out: &mut [u8], at: usize, order: Order)
     requires { ⌜ at + length (field 4 (orderBytes order)) ≤ length (now out) ⌝ }
     ensures { λ _. ⌜ now (out .exit) ≡ placed (now (out .entry)) at (field 4 (orderBytes order)) ⌝ }
+{
+    put_start(out, at, order);
+    if orders::kind(order) == 1 {
+        fields::put(out, at + 8, 1, orders::share(order) as u64);
+    }
+}
+
+// What every order's field begins with: tag, length, kind and image.
+fn put_start(out: &mut [u8], at: usize, order: Order)
+    requires { ⌜ at + 8 ≤ length (now out) ⌝ }
+    ensures { λ _. ⌜ now (out .exit) ≡ placed (now (out .entry)) at (orderStart order) ⌝ }
 {
     fields::put(out, at, 1, 4);
     fields::put(out, at + 1, 2, orders::size(order) as u64);
     fields::put(out, at + 3, 1, orders::kind(order) as u64);
     fields::put(out, at + 4, 4, orders::image(order) as u64);
-    if orders::kind(order) == 1 {
-        fields::put(out, at + 8, 1, orders::share(order) as u64);
-    }
 }

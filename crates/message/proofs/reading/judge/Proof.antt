@@ -1,8 +1,10 @@
 -- Field by field from the front, the first verdict that is wrong is the first fault. Assumes nothing.
-use mathlib.Core.Path.{_∙_}
+use mathlib.Core.Path.{_≡_, _∙_}
 use borrow.Author.Tests.{eq-eqb, ne-eqb}
 use denote.Ref.{now}
-use Rattle.message.proofs.ReadLaws.{stamp-wrong, source-wrong, hop-wrong, order-second, order-first}
+use Rattle.fields.specs.Faults.{first}
+use Rattle.message.specs.Layout.{messageFields}
+use Rattle.message.proofs.ReadLaws.{after-source, stamp-wrong, source-wrong, past-source, hop-wrong, order-second, order-first}
 use borrow.Author.Needs.{needs}
 use Rattle.message.proofs.reading.judge.Statement.{statement}
 use Rattle.message.proofs.reading.judge.Tie as tie
@@ -44,6 +46,17 @@ returns-2 c =
 enum-told-2 : tie.Need-enum-told-2
 enum-told-2 c = search needs
 
+past : (c : tie.After-enum-told2)
+    → first (messageFields (c .before .before .before .before .before .before .before .args .rules) (now (c .before .before .before .before .before .before .before .args .bytes))) ≡ first (after-source (c .before .before .before .before .before .before .before .args .rules) (now (c .before .before .before .before .before .before .before .args .bytes)))
+past c =
+    let c2 = c .before .before in
+    let c3 = c2 .before in
+    let c5 = c3 .before .before in
+    let c7 = c5 .before .before in
+    let a = c7 .args in
+    past-source (a .rules) (now (a .bytes)) _ (c5 .slot-fault .ensures) (c3 .enum-told .given .1) _ (c2 .slot-fault2 .ensures)
+    (c .enum-told2 .given .1)
+
 slot-fault-requires-3 : tie.Need-slot-fault-requires-3
 slot-fault-requires-3 c κs = search needs
 
@@ -56,13 +69,9 @@ returns-3 c =
     let c3 = c1 .before .before in
     let c4 = c3 .before in
     let c5 = c4 .before in
-    let c7 = c5 .before .before in
-    let c8 = c7 .before in
-    let c10 = c8 .before .before in
-    let c12 = c10 .before .before in
-    let a = c12 .args in
-    hop-wrong (a .rules) (now (a .bytes)) _ (c10 .slot-fault .ensures) (c8 .enum-told .given .1) _ (c7 .slot-fault2 .ensures)
-    (c5 .enum-told2 .given .1) (eq-eqb _ _ (c4 .if1 .taken)) _ (c3 .slot-fault3 .ensures) _ (c1 .hop .given .1)
+    let d = c5 in
+    let a = d .before .before .before .before .before .before .before .args in
+    hop-wrong (a .rules) (now (a .bytes)) (past d) (eq-eqb _ _ (c4 .if1 .taken)) _ (c3 .slot-fault3 .ensures) _ (c1 .hop .given .1)
 
 enum-told-3 : tie.Need-enum-told-3
 enum-told-3 c = search needs
@@ -76,13 +85,10 @@ returns-4 c =
     let c3 = c1 .before .before in
     let c4 = c3 .before in
     let c5 = c4 .before in
-    let c7 = c5 .before .before in
-    let c8 = c7 .before in
-    let c10 = c8 .before .before in
-    let c12 = c10 .before .before in
-    let a = c12 .args in
-    c .judge-order .ensures ∙ order-second (a .rules) (now (a .bytes)) _ (c10 .slot-fault .ensures) (c8 .enum-told .given .1) _
-    (c7 .slot-fault2 .ensures) (c5 .enum-told2 .given .1) (eq-eqb _ _ (c4 .if1 .taken)) _ (c3 .slot-fault3 .ensures) (c1 .enum-told3 .given .1)
+    let d = c5 in
+    let a = d .before .before .before .before .before .before .before .args in
+    c .judge-order .ensures ∙ order-second (a .rules) (now (a .bytes)) (past d) (eq-eqb _ _ (c4 .if1 .taken)) _ (c3 .slot-fault3 .ensures)
+    (c1 .enum-told3 .given .1)
 
 judge-order-requires-2 : tie.Need-judge-order-requires-2
 judge-order-requires-2 c κs = search needs
@@ -91,13 +97,9 @@ returns-5 : tie.Need-returns-5
 returns-5 c =
     let c1 = c .before in
     let c2 = c1 .before in
-    let c4 = c2 .before .before in
-    let c5 = c4 .before in
-    let c7 = c5 .before .before in
-    let c9 = c7 .before .before in
-    let a = c9 .args in
-    c .judge-order2 .ensures ∙ order-first (a .rules) (now (a .bytes)) _ (c7 .slot-fault .ensures) (c5 .enum-told .given .1) _
-    (c4 .slot-fault2 .ensures) (c2 .enum-told2 .given .1) (ne-eqb _ _ (c1 .if1 .left))
+    let d = c2 in
+    let a = d .before .before .before .before .before .before .before .args in
+    c .judge-order2 .ensures ∙ order-first (a .rules) (now (a .bytes)) (past d) (ne-eqb _ _ (c1 .if1 .left))
 
 pub judge-spec : {M : Type 1} → statement M
 judge-spec =
