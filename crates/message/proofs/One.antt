@@ -47,6 +47,5 @@ read-one rules bs = one-answer readSays got got-back
 -- ---- `order_part`: where the part lies, and its bytes
 
 pub order-part-one : (rules : ℕ) (at : ℕ × ℕ) (bs : List ℕ) (r s : ℕ × ℕ) (o p : List ℕ)
-    → (r ≡ placeOf at (readOf rules bs)) × (o ≡ partOf bs (readOf rules bs)) → (s ≡ placeOf at (readOf rules bs)) × (p ≡ partOf bs (readOf rules bs))
-    → (r ≡ s) × (o ≡ p)
+    → (r ≡ placeOf rules bs at) × (o ≡ partOf rules bs) → (s ≡ placeOf rules bs at) × (p ≡ partOf rules bs) → (r ≡ s) × (o ≡ p)
 order-part-one rules at bs r s o p a b = (one-result (a .0) (b .0), one-result (a .1) (b .1))

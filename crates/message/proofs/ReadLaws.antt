@@ -149,13 +149,21 @@ read-room rules bs f e =
 -- ---- the order's part, of what was read and of nothing
 
 module _ (p : ℕ × ℕ) (rules : ℕ) (bs : List ℕ) where
-  pub part-is : (f : Found) → (0, f) ≡ readOf rules bs
-      → ((p .0, f .start + p .1) ≡ placeOf p (readOf rules bs)) × (take (f .start + f .size - f .start) (drop (f .start) bs) ≡ partOf bs (readOf rules bs))
-  part-is f e =
-      (ap (placeOf p) e, ap (λ (n : ℕ). take n (drop (f .start) bs)) (add-sub-cancel-left (f .start) (f .size)) ∙ ap (partOf bs) e)
+  unfoldable lies : ℕ × Found → ℕ × ℕ
+  lies a = (p .0, a .1 .start + p .1)
 
-  pub no-part : (n : ℕ) → (n, nothing) ≡ readOf rules bs → (p ≡ placeOf p (readOf rules bs)) × ([] ≡ partOf bs (readOf rules bs))
-  no-part n e = (ap (λ (k : ℕ). (p .0, k)) (sym (zero-add (p .1))) ∙ ap (placeOf p) e, ap (partOf bs) e)
+  unfoldable bytes : ℕ × Found → List ℕ
+  bytes a = take (a .1 .size) (drop (a .1 .start) bs)
+
+  pub part-is : (f : Found) → (0, f) ≡ readOf rules bs
+      → ((p .0, f .start + p .1) ≡ placeOf rules bs p) × (take (f .start + f .size - f .start) (drop (f .start) bs) ≡ partOf rules bs)
+  unfolding lies bytes
+  part-is f e =
+      (ap lies e, ap (λ (n : ℕ). take n (drop (f .start) bs)) (add-sub-cancel-left (f .start) (f .size)) ∙ ap bytes e)
+
+  pub no-part : (n : ℕ) → (n, nothing) ≡ readOf rules bs → (p ≡ placeOf rules bs p) × ([] ≡ partOf rules bs)
+  unfolding lies bytes
+  no-part n e = (ap (λ (k : ℕ). (p .0, k)) (sym (zero-add (p .1))) ∙ ap lies e, ap bytes e)
 
 -- ---- what stands in the slots, taken from its places
 

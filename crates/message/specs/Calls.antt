@@ -64,8 +64,8 @@ abbrev pub readOf : ℕ → List ℕ → ℕ × Found
 readOf rules bs = answer (readRefusal rules bs) nothing (foundAt rules bs)
 
 -- "The order field is handed back as that part of the message": its bytes, and where they lie, so many from the message's own place
-abbrev pub partOf : List ℕ → ℕ × Found → List ℕ
-partOf bs f = take (f .1 .size) (drop (f .1 .start) bs)
+abbrev pub partOf : ℕ → List ℕ → List ℕ
+partOf rules bs = take (readOf rules bs .1 .size) (drop (readOf rules bs .1 .start) bs)
 
-abbrev pub placeOf : ℕ × ℕ → ℕ × Found → ℕ × ℕ
-placeOf p f = (p .0, f .1 .start + p .1)
+abbrev pub placeOf : ℕ → List ℕ → ℕ × ℕ → ℕ × ℕ
+placeOf rules bs p = (p .0, readOf rules bs .1 .start + p .1)

@@ -31,7 +31,7 @@ pub fn read(rules: u8, bytes: &[u8]) -> Got
 
 // The order's bytes, as that part of the message; where there is none, the empty part at its start.
 pub fn order_part(rules: u8, bytes: &[u8]) -> &[u8]
-    ensures { λ r. ⌜ (r .ptr ≡ placeOf (bytes .entry .ptr) (readOf rules (now (bytes .entry)))) × (now r ≡ partOf (now (bytes .entry)) (readOf rules (now (bytes .entry)))) ⌝ }
+    ensures { λ r. ⌜ (r .ptr ≡ placeOf rules (now (bytes .entry)) (bytes .entry .ptr)) × (now r ≡ partOf rules (now (bytes .entry))) ⌝ }
 {
     let got = read(rules, bytes);
     match got {

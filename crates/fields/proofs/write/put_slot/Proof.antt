@@ -37,12 +37,13 @@ returns c =
     let a = c4 .args in
     not-put _ (a .at) _ (bytes (a .slot) (a .x)) (long (a .slot) (a .x)) _ (c1 .has-room .ensures) (c .if1 .taken)
 
-there : (c : tie.Else1) → c .before .before .before .before .args .at + (3 + c .before .before .before .before .args .slot .width) ≤ length (now (c .before .before .before .before .args .out))
+abbrev start : tie.Else1 → tie.Start
+start c = c .before .before .before .before
+
+there : (c : tie.Else1) → start c .args .at + (3 + start c .args .slot .width) ≤ length (now (start c .args .out))
 there c =
-    let c1 = c .before in
-    let c4 = c1 .before .before .before in
-    let a = c4 .args in
-    room (now (a .out)) (a .at) _ (bytes (a .slot) (a .x)) (long (a .slot) (a .x)) _ (c1 .has-room .ensures) (c .if1 .left)
+    let a = start c .args in
+    room (now (a .out)) (a .at) _ (bytes (a .slot) (a .x)) (long (a .slot) (a .x)) _ (c .before .has-room .ensures) (c .if1 .left)
 
 cast-store : tie.Need-cast-store
 cast-store c = search needs

@@ -46,14 +46,15 @@ returns-2 c =
 enum-told-2 : tie.Need-enum-told-2
 enum-told-2 c = search needs
 
-past : (c : tie.After-enum-told2)
-    → first (messageFields (c .before .before .before .before .before .before .before .args .rules) (now (c .before .before .before .before .before .before .before .args .bytes))) ≡ first (after-source (c .before .before .before .before .before .before .before .args .rules) (now (c .before .before .before .before .before .before .before .args .bytes)))
+abbrev start : tie.After-enum-told2 → tie.Start
+start c = c .before .before .before .before .before .before .before
+
+past : (c : tie.After-enum-told2) → first (messageFields (start c .args .rules) (now (start c .args .bytes))) ≡ first (after-source (start c .args .rules) (now (start c .args .bytes)))
 past c =
     let c2 = c .before .before in
     let c3 = c2 .before in
     let c5 = c3 .before .before in
-    let c7 = c5 .before .before in
-    let a = c7 .args in
+    let a = start c .args in
     past-source (a .rules) (now (a .bytes)) _ (c5 .slot-fault .ensures) (c3 .enum-told .given .1) _ (c2 .slot-fault2 .ensures)
     (c .enum-told2 .given .1)
 
@@ -70,8 +71,8 @@ returns-3 c =
     let c4 = c3 .before in
     let c5 = c4 .before in
     let d = c5 in
-    let a = d .before .before .before .before .before .before .before .args in
-    hop-wrong (a .rules) (now (a .bytes)) (past d) (eq-eqb _ _ (c4 .if1 .taken)) _ (c3 .slot-fault3 .ensures) _ (c1 .hop .given .1)
+    hop-wrong (start d .args .rules) (now (start d .args .bytes)) (past d) (eq-eqb _ _ (c4 .if1 .taken)) _ (c3 .slot-fault3 .ensures) _
+    (c1 .hop .given .1)
 
 enum-told-3 : tie.Need-enum-told-3
 enum-told-3 c = search needs
@@ -86,9 +87,8 @@ returns-4 c =
     let c4 = c3 .before in
     let c5 = c4 .before in
     let d = c5 in
-    let a = d .before .before .before .before .before .before .before .args in
-    c .judge-order .ensures ∙ order-second (a .rules) (now (a .bytes)) (past d) (eq-eqb _ _ (c4 .if1 .taken)) _ (c3 .slot-fault3 .ensures)
-    (c1 .enum-told3 .given .1)
+    c .judge-order .ensures ∙ order-second (start d .args .rules) (now (start d .args .bytes)) (past d) (eq-eqb _ _ (c4 .if1 .taken)) _
+    (c3 .slot-fault3 .ensures) (c1 .enum-told3 .given .1)
 
 judge-order-requires-2 : tie.Need-judge-order-requires-2
 judge-order-requires-2 c κs = search needs
@@ -98,8 +98,7 @@ returns-5 c =
     let c1 = c .before in
     let c2 = c1 .before in
     let d = c2 in
-    let a = d .before .before .before .before .before .before .before .args in
-    c .judge-order2 .ensures ∙ order-first (a .rules) (now (a .bytes)) (past d) (ne-eqb _ _ (c1 .if1 .left))
+    c .judge-order2 .ensures ∙ order-first (start d .args .rules) (now (start d .args .bytes)) (past d) (ne-eqb _ _ (c1 .if1 .left))
 
 pub judge-spec : {M : Type 1} → statement M
 judge-spec =

@@ -18,7 +18,10 @@ size-wrong bs at = wrongSize (getD bs (at + 3) 0) (statedAt bs at)
 abbrev value-wrong : List ℕ → ℕ → Bool
 value-wrong bs at = wrongValue (getD bs (at + 3) 0) (getD bs (at + 8) 0)
 
-head : (c : tie.After-enum-told2) → c .before .before .before .before .args .at + 3 + statedAt (now (c .before .before .before .before .args .bytes)) (c .before .before .before .before .args .at) ≤ length (now (c .before .before .before .before .args .bytes))
+abbrev start : tie.After-enum-told2 → tie.Start
+start c = c .before .before .before .before
+
+head : (c : tie.After-enum-told2) → start c .args .at + 3 + statedAt (now (start c .args .bytes)) (start c .args .at) ≤ length (now (start c .args .bytes))
 head c = head-right _ _ 4 _ (c .before .before .head-fault .ensures) (c .enum-told2 .given .1) .room
 
 head-fault-requires : tie.Need-head-fault-requires

@@ -11,12 +11,11 @@ use borrow.Author.Needs.{needs}
 use Rattle.message.proofs.writing.write.Statement.{statement}
 use Rattle.message.proofs.writing.write.Tie as tie
 
-whole : (c : tie.After-size) → c .before .order-place .result + 3 + c .size .result ≡ length (layout (c .before .before .before .before .before .args .rules) (c .before .before .before .before .before .args .message))
-whole c =
-    let c1 = c .before in
-    let c5 = c1 .before .before .before .before in
-    let a = c5 .args in
-    omega (arith, c1 .order-place .ensures, c .size .ensures, length-layout (a .rules) (a .message))
+abbrev start : tie.After-size → tie.Start
+start c = c .before .before .before .before .before
+
+whole : (c : tie.After-size) → c .before .order-place .result + 3 + c .size .result ≡ length (layout (start c .args .rules) (start c .args .message))
+whole c = omega (arith, c .before .order-place .ensures, c .size .ensures, length-layout (start c .args .rules) (start c .args .message))
 
 in-range-requires : tie.Need-in-range-requires
 in-range-requires c κs = search needs
