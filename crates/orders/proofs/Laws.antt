@@ -20,11 +20,12 @@ one-result x y = x ∙ sym y
 
 -- ---- sameness
 
-pub of-parts : (o : Order) → orderOf (kindOf o) (imageOf o) (shareOf o) ≡ o
-of-parts (Publish image share) = refl
-of-parts (Halt image) = refl
-of-parts (Resume image) = refl
-of-parts (Withdraw image) = refl
+-- the order of its kind and image, and of its share where it is a publish
+pub from-parts : (s : ℕ) (o : Order) → (eqb (kindOf o) 1 ≡ true → s ≡ shareOf o) → orderOf (kindOf o) (imageOf o) s ≡ o
+from-parts s (Publish image share) e = ap (Publish image) (e refl)
+from-parts s (Halt image) e = refl
+from-parts s (Resume image) e = refl
+from-parts s (Withdraw image) e = refl
 
 pub same-equal : (o p : Order) → sameOrder o p ≡ true → o ≡ p
 same-equal o p e =
@@ -35,7 +36,7 @@ same-equal o p e =
     let kinds : kindOf o ≡ kindOf p = eqb-true _ _ (and-left k i ki) in
     let images : imageOf o ≡ imageOf p = eqb-true _ _ (and-right k i ki) in
     let shares : shareOf o ≡ shareOf p = eqb-true _ _ (and-right (k && i) s e) in
-    cc (of-parts o, of-parts p)
+    cc (from-parts (shareOf o) o (λ _. refl), from-parts (shareOf p) p (λ _. refl))
 
 pub equal-same : (o p : Order) → o ≡ p → sameOrder o p ≡ true
 equal-same o p e = simp (eq-eqb _ _ (ap kindOf e), eq-eqb _ _ (ap imageOf e), eq-eqb _ _ (ap shareOf e))
@@ -55,28 +56,12 @@ kind-is (Halt image) = refl
 kind-is (Resume image) = refl
 kind-is (Withdraw image) = refl
 
--- nothing is wrong with an order's own size and value; where it is no publish, whatever stands for its share
-pub right-size : (o : Order) → wrongSize (kindOf o) (length (orderBytes o)) ≡ false
-right-size o = rw (size-bytes o) (go o)
-  where
-    go : (o : Order) → wrongSize (kindOf o) (sizeOf (kindOf o)) ≡ false
-    go (Publish image share) = refl
-    go (Halt image) = refl
-    go (Resume image) = refl
-    go (Withdraw image) = refl
-
-module _ (s : ℕ) where
-  pub from-parts : (o : Order) → (eqb (kindOf o) 1 ≡ true → s ≡ shareOf o) → orderOf (kindOf o) (imageOf o) s ≡ o
-  from-parts (Publish image share) e = ap (Publish image) (e refl)
-  from-parts (Halt image) e = refl
-  from-parts (Resume image) e = refl
-  from-parts (Withdraw image) e = refl
-
-  pub right-value : (o : Order) → (eqb (kindOf o) 1 ≡ true → s ≡ shareOf o) → shareFits o ≡ true → wrongValue (kindOf o) s ≡ false
-  right-value (Publish image share) e f = rw (e refl, f)
-  right-value (Halt image) e f = refl
-  right-value (Resume image) e f = refl
-  right-value (Withdraw image) e f = refl
+-- nothing is wrong with an order's own value, whatever stands for the share where it is no publish
+pub right-value : (s : ℕ) (o : Order) → (eqb (kindOf o) 1 ≡ true → s ≡ shareOf o) → shareFits o ≡ true → wrongValue (kindOf o) s ≡ false
+right-value s (Publish image share) e f = rw (e refl, f)
+right-value s (Halt image) e f = refl
+right-value s (Resume image) e f = refl
+right-value s (Withdraw image) e f = refl
 
 -- ---- bytes in which nothing is wrong are those of an order
 
@@ -115,3 +100,7 @@ module _ (kind : ℕ) (k : isKind kind ≡ true) where
 -- where no value is wrong the kind is one
 pub right-kind : (kind share : ℕ) → wrongValue kind share ≡ false → isKind kind ≡ true
 right-kind kind share e = not-false (isKind kind) (or-left (not (isKind kind)) (eqb kind 1 && not (isShare share)) e)
+
+-- nor with its own size
+pub right-size : (o : Order) → wrongSize (kindOf o) (length (orderBytes o)) ≡ false
+right-size o = rw (size-bytes o) (by-kind (kindOf o) (kind-is o) (λ k. wrongSize k (sizeOf k) ≡ false) refl refl refl refl)
