@@ -15,7 +15,7 @@ use Rattle.lists.proofs.Bools.{and-left, and-right}
 use Rattle.lists.proofs.TestLaws.{none-pass}
 use Rattle.lists.proofs.ByteLaws.{Bytes, length-be, part, part-add, be-val, val-be}
 use Rattle.fields.specs.Fields.{field, numberAt, statedAt, valueChecks}
-use Rattle.fields.specs.Slots.{wrongLength, wrongValue, slotChecks, span, filled, slotFields, numbersAt}
+use Rattle.fields.specs.Slots.{wrongLength, wrongNumber, slotChecks, span, filled, slotFields, numbersAt}
 use Rattle.fields.specs.declared.Slot.{Slot}
 use Rattle.fields.specs.declared.Verdict.the-variants.{Right}
 use Rattle.fields.proofs.Checks.{Clear}
@@ -107,9 +107,9 @@ module _ (bs pre post : List ℕ) (at : ℕ) (s : Slot) (x : ℕ) (g : Good s) (
   slot-there =
       let short : length value < 65536 = omega (arith, length-be (s .width) x, g .narrow) in
       let stated : statedAt bs at ≡ s .width = stated-there bs pre post value at (s .tag) e l (g .byte) short ∙ length-be (s .width) x in
-      let none : 0 ≡ firstOf (valueChecks (wrongLength bs at s) (wrongValue bs at s)) =
+      let none : 0 ≡ firstOf (valueChecks (wrongLength bs at s) (wrongNumber bs at s)) =
       simp (eq-eqb _ _ stated, number-there, le-leb _ _ low, le-leb _ _ high) in
-      sym (past-head bs at (s .tag) Right (sym (head-there bs pre post value at (s .tag) e l (g .byte) short)) (wrongLength bs at s) (wrongValue bs at s) 0 refl none)
+      sym (past-head bs at (s .tag) Right (sym (head-there bs pre post value at (s .tag) e l (g .byte) short)) (wrongLength bs at s) (wrongNumber bs at s) 0 refl none)
 
 pub slots-there : (bs pre post : List ℕ) (at : ℕ) (ss : List Slot) (xs : List ℕ) → AllGood ss → Within ss xs → bs ≡ pre ++ (flat (filled ss xs) ++ post) → length pre ≡ at
     → Clear (slotFields bs at ss) × (numbersAt bs at ss ≡ xs)

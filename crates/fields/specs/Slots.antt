@@ -11,11 +11,11 @@ use Rattle.fields.specs.declared.Slot.{Slot}
 abbrev pub wrongLength : List ℕ → ℕ → Slot → Bool
 wrongLength bs at s = not (eqb (statedAt bs at) (s .width))
 
-abbrev pub wrongValue : List ℕ → ℕ → Slot → Bool
-wrongValue bs at s = not (leb (s .least) (numberAt bs (at + 3) (s .width)) && leb (numberAt bs (at + 3) (s .width)) (s .largest))
+abbrev pub wrongNumber : List ℕ → ℕ → Slot → Bool
+wrongNumber bs at s = not (leb (s .least) (numberAt bs (at + 3) (s .width)) && leb (numberAt bs (at + 3) (s .width)) (s .largest))
 
 abbrev pub slotChecks : List ℕ → ℕ → Slot → List (ℕ × Bool)
-slotChecks bs at s = checks bs at (s .tag) (wrongLength bs at s) (wrongValue bs at s)
+slotChecks bs at s = checks bs at (s .tag) (wrongLength bs at s) (wrongNumber bs at s)
 
 -- how many bytes the fields have
 abbrev pub span : List Slot → ℕ

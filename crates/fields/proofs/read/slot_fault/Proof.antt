@@ -1,7 +1,7 @@
 -- A wrong head is the first fault; past a right one come the two tests. Assumes nothing.
 use native.Mathlib.Omega.{arith}
 use denote.Ref.{now}
-use Rattle.fields.specs.Slots.{wrongLength, wrongValue}
+use Rattle.fields.specs.Slots.{wrongLength, wrongNumber}
 use Rattle.fields.proofs.Reading.{head-right, at-head, past-head}
 use borrow.Author.Needs.{needs}
 use Rattle.fields.proofs.read.slot_fault.Statement.{statement}
@@ -19,7 +19,7 @@ returns c =
     let c4 = c2 .before .before in
     let a = c4 .args in
     let bs = now (a .bytes) in
-    at-head bs (a .at) (a .slot .tag) _ (c2 .head-fault .ensures) (wrongLength bs (a .at) (a .slot)) (wrongValue bs (a .at) (a .slot)) _
+    at-head bs (a .at) (a .slot .tag) _ (c2 .head-fault .ensures) (wrongLength bs (a .at) (a .slot)) (wrongNumber bs (a .at) (a .slot)) _
     (c .enum-told .given .1)
 
 enum-told-2 : tie.Need-enum-told-2
@@ -59,7 +59,7 @@ returns-2 c =
     let a = d .before .before .before .before .args in
     let bs = now (a .bytes) in
     past-head bs (a .at) (a .slot .tag) _ (d .before .before .head-fault .ensures) (wrongLength bs (a .at) (a .slot))
-    (wrongValue bs (a .at) (a .slot)) _ (d .enum-told2 .given .1) (cc (c5 .value-at .ensures, c3 .value-at2 .ensures, c .value-fault .ensures))
+    (wrongNumber bs (a .at) (a .slot)) _ (d .enum-told2 .given .1) (cc (c5 .value-at .ensures, c3 .value-at2 .ensures, c .value-fault .ensures))
 
 pub slot-fault-spec : {M : Type 1} → statement M
 slot-fault-spec =
