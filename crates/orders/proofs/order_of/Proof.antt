@@ -1,5 +1,5 @@
 -- Each arm is the definition's case of that kind. Assumes nothing.
-use borrow.Author.Tests.{eq-eqb, ne-eqb}
+use borrow.Author.Tests.{ne-eqb}
 use Rattle.orders.proofs.order_of.Statement.{statement}
 use Rattle.orders.proofs.order_of.Tie as tie
 

@@ -1,0 +1,6 @@
+-- Laws for the proofs here, and the theorems of the layout.
+mod WriteLaws
+mod ReadLaws
+mod OrderLaws
+pub mod RoundTrip
+pub mod One
