@@ -10,6 +10,7 @@ use lib.Dec.{leb, eqb}
 use lib.ListN.{length, take, drop, replicate, length-take}
 use lib.Seq.{take-append-seam, drop-append-seam}
 use Rattle.lists.specs.Lists.{all, rising}
+use Rattle.lists.proofs.One.{one-result, one-answer}
 use Rattle.lists.proofs.Bools.{and-left, and-right}
 use Rattle.lists.proofs.TestLaws.{each-all, none-pass}
 use Rattle.orders.specs.declared.Order.{Order}
@@ -37,13 +38,11 @@ answerOf-says Done = refl
 answerOf-says Unsound = refl
 answerOf-says OutOfRange = refl
 
-pub says-one : (a b : Answer) → says a ≡ says b → a ≡ b
-says-one a b e = sym (answerOf-says a) ∙ ap answerOf e ∙ answerOf-says b
-
-pub one-result : (b : Board) (o : Order) (r s : Applied)
+pub apply-one : (b : Board) (o : Order) (r s : Applied)
     → (says (r .answer) ≡ boardRefusal b o) × (r .board ≡ boardAfter b o) → (says (s .answer) ≡ boardRefusal b o) × (s .board ≡ boardAfter b o) → r ≡ s
-one-result b o r s x y =
-    ap₂ (λ (c : Board) (a : Answer). record { board = c; answer = a }) (x .1 ∙ sym (y .1)) (says-one (r .answer) (s .answer) (x .0 ∙ sym (y .0)))
+apply-one b o r s x y =
+    ap₂ (λ (c : Board) (a : Answer). record { board = c; answer = a }) (one-result (x .1) (y .1))
+    (one-answer says answerOf answerOf-says (r .answer) (s .answer) (x .0) (y .0))
 
 -- ---- what an order does to each image
 

@@ -1,5 +1,5 @@
 -- What callers use of clocks. Assumes nothing.
-use mathlib.Core.Path.{_≡_, sym, ap, _∙_}
+use mathlib.Core.Path.{_≡_, ap}
 use Prim.Native.Nat.{ℕ, _+_, _-_, _≤_, _<_}
 use native.Mathlib.Omega.{arith}
 use borrow.Author.Tests.{le-leb}
@@ -10,11 +10,6 @@ use Rattle.clock.specs.declared.Shown.{Shown}
 use Rattle.clock.specs.declared.Shown.the-variants as shown-as
 use Rattle.clock.specs.declared.Showing.{Showing}
 use Rattle.clock.specs.declared.Showing.the-variants as showing-as
-
--- ---- each promise admits one result only: it is an equation with a definition
-
-pub one-result : {A : Type 0} {defined r s : A} → r ≡ defined → s ≡ defined → r ≡ s
-one-result x y = x ∙ sym y
 
 -- ---- a clock's reading leads back to its tick, and no other tick has it
 

@@ -1,4 +1,4 @@
--- Orders of checks, one after the other, and runs of fields. Assumes nothing.
+-- The faults of a run of fields. Assumes nothing.
 use mathlib.Core.Path.{_≡_, refl, sym, ap, _∙_}
 use mathlib.Core.Bool.{Bool, true, false, cond}
 use mathlib.Core.List.{List, [], _∷_, _++_}
@@ -7,30 +7,11 @@ use native.Mathlib.Omega.{arith}
 use borrow.Author.Tests.{eq-eqb, ne-eqb, eqb-true, eqb-false}
 use lib.Dec.{eqb}
 use Rattle.lists.specs.Tests.{firstOf}
-use Rattle.lists.proofs.TestLaws.{Numbered, NonePass, none-pass}
 use Rattle.fields.specs.Faults.{fault, verdict, first}
 use Rattle.fields.specs.declared.Fault.{Fault}
 use Rattle.fields.specs.declared.Fault.the-variants.{CutShort, WrongTag, WrongLength, WrongValue, LeftOver}
 use Rattle.fields.specs.declared.Verdict.{Verdict}
 use Rattle.fields.specs.declared.Verdict.the-variants.{Right, Wrong}
-
--- ---- one order of checks before another
-
-pub firstOf-left : (xs ys : List (ℕ × Bool)) → (firstOf xs ≡ 0 → ⊥) → firstOf (xs ++ ys) ≡ firstOf xs
-firstOf-left [] ys n = absurd (n refl)
-firstOf-left (c ∷ xs) ys n = go (c .1) n (firstOf-left xs ys)
-  where
-    go : (t : Bool) → (cond t (c .0) (firstOf xs) ≡ 0 → ⊥) → ((firstOf xs ≡ 0 → ⊥) → firstOf (xs ++ ys) ≡ firstOf xs)
-        → cond t (c .0) (firstOf (xs ++ ys)) ≡ cond t (c .0) (firstOf xs)
-    go true n rest = refl
-    go false n rest = rest n
-
-pub firstOf-right : (xs ys : List (ℕ × Bool)) → Numbered xs → firstOf xs ≡ 0 → firstOf (xs ++ ys) ≡ firstOf ys
-firstOf-right xs ys n e = skip xs (none-pass xs n e)
-  where
-    skip : (xs : List (ℕ × Bool)) → NonePass xs → firstOf (xs ++ ys) ≡ firstOf ys
-    skip [] p = refl
-    skip (c ∷ xs) p = rw (p .0) (skip xs (p .1))
 
 -- ---- faults by their numbers
 

@@ -1,21 +1,13 @@
--- Each promise admits one result only: it is an equation with a definition, and where it is of an answer's numbers, those are one-to-one.
--- Assumes nothing.
-use mathlib.Core.Path.{_≡_, refl, sym, ap, _∙_}
+-- The promise of a verdict admits one result only: its numbers are one-to-one. Every other promise here is an equation. Assumes nothing.
+use mathlib.Core.Path.{_≡_, refl}
 use mathlib.Core.Bool.{cond}
 use Prim.Native.Nat.{ℕ}
 use lib.Dec.{eqb}
+use Rattle.lists.proofs.One.{one-answer}
 use Rattle.fields.specs.Faults.{verdict}
 use Rattle.fields.specs.declared.Fault.the-variants.{CutShort, WrongTag, WrongLength, WrongValue, LeftOver}
 use Rattle.fields.specs.declared.Verdict.{Verdict}
 use Rattle.fields.specs.declared.Verdict.the-variants.{Right, Wrong}
-
--- a number, a truth or a list that the promise names
-pub one-result : {A : Type 0} {defined r s : A} → r ≡ defined → s ≡ defined → r ≡ s
-one-result x y = x ∙ sym y
-
--- an answer whose numbers the promise names, where the numbers lead back to the answer
-pub one-answer : {A B : Type 0} (says : A → B) (back : B → A) → ((a : A) → back (says a) ≡ a) → {defined : B} (r s : A) → says r ≡ defined → says s ≡ defined → r ≡ s
-one-answer says back leads r s x y = sym (leads r) ∙ ap back (one-result x y) ∙ leads s
 
 unfoldable named : ℕ → Verdict
 named n =

@@ -9,13 +9,13 @@ use lib.Dec.{eqb}
 use lib.ListN.{length, getD, List·getD-eq-default}
 use Rattle.lists.specs.Bytes.{valAt}
 use Rattle.lists.specs.Tests.{firstOf}
-use Rattle.lists.proofs.TestLaws.{none-pass}
+use Rattle.lists.proofs.TestLaws.{none-pass, firstOf-left, firstOf-right}
 use Rattle.fields.specs.Fields.{statedAt, headChecks, valueChecks, checks}
 use Rattle.fields.specs.Faults.{verdict}
 use Rattle.fields.specs.declared.Fault.{Fault}
 use Rattle.fields.specs.declared.Verdict.{Verdict}
 use Rattle.fields.specs.declared.Verdict.the-variants.{Right, Wrong}
-use Rattle.fields.proofs.Checks.{firstOf-left, firstOf-right, fault-some}
+use Rattle.fields.proofs.Checks.{fault-some}
 
 -- past the end all bytes count as 0
 pub val-past : (bs : List ℕ) (at k : ℕ) → length bs ≤ at → valAt bs at k ≡ 0
@@ -33,7 +33,7 @@ pub record HeadIs (bs : List ℕ) (at tag : ℕ) : Type 0 where
 
 pub head-is : (bs : List ℕ) (at tag : ℕ) → firstOf (headChecks bs at tag) ≡ 0 → HeadIs bs at tag
 head-is bs at tag e =
-    let p = none-pass (headChecks bs at tag) (omega arith) e in
+    let p = none-pass (headChecks bs at tag) refl e in
     record {
       room = ltb-false (length bs) (at + 3 + statedAt bs at) (p .0);
       tagged = eqb-true (getD bs at 0) tag (not-false (eqb (getD bs at 0) tag) (p .1 .0));
@@ -52,4 +52,4 @@ module _ (bs : List ℕ) (at tag : ℕ) (v : Verdict) (e : verdict v ≡ firstOf
 
     pub past-head : (n : ℕ) → v ≡ Right → n ≡ firstOf (valueChecks wrongLength wrongValue) → n ≡ firstOf (checks bs at tag wrongLength wrongValue)
     past-head n r g =
-        g ∙ sym (firstOf-right (headChecks bs at tag) (valueChecks wrongLength wrongValue) (omega arith) (sym e ∙ ap verdict r))
+        g ∙ sym (firstOf-right (headChecks bs at tag) (valueChecks wrongLength wrongValue) refl (sym e ∙ ap verdict r))

@@ -1,4 +1,5 @@
--- The laws of specs/.
+-- The laws of specs/, and that a promise admits one result.
+pub mod One
 pub mod Bools
 pub mod TestLaws
 pub mod SearchLaws

@@ -1,7 +1,7 @@
 -- The laws of lists of tests. Assumes nothing.
 use mathlib.Core.Path.{_≡_, refl, sym, ap, _∙_}
 use mathlib.Core.Bool.{Bool, true, false, cond, _&&_, _||_, and-assoc, and-true, or-assoc, or-false}
-use mathlib.Core.List.{List, [], _∷_}
+use mathlib.Core.List.{List, [], _∷_, _++_}
 use Prim.Native.Nat.{ℕ, _<_}
 use native.Mathlib.Omega.{arith}
 use borrow.Author.Tests.{ltb-true}
@@ -52,6 +52,24 @@ none-pass (c ∷ cs) n e = go (c .1) e refl (none-pass cs (and-right (ltb 0 (c .
     go : (t : Bool) → cond t (c .0) (firstOf cs) ≡ 0 → c .1 ≡ t → (firstOf cs ≡ 0 → NonePass cs) → (c .1 ≡ false) × NonePass cs
     go true q s rest = let z : 0 < c .0 = ltb-true 0 (c .0) (and-left (ltb 0 (c .0)) (numbered cs) n) in absurd (omega arith)
     go false q s rest = (s, rest q)
+
+-- ---- one order of checks before another
+
+pub firstOf-left : (xs ys : List (ℕ × Bool)) → (firstOf xs ≡ 0 → ⊥) → firstOf (xs ++ ys) ≡ firstOf xs
+firstOf-left [] ys n = absurd (n refl)
+firstOf-left (c ∷ xs) ys n = go (c .1) n (firstOf-left xs ys)
+  where
+    go : (t : Bool) → (cond t (c .0) (firstOf xs) ≡ 0 → ⊥) → ((firstOf xs ≡ 0 → ⊥) → firstOf (xs ++ ys) ≡ firstOf xs)
+        → cond t (c .0) (firstOf (xs ++ ys)) ≡ cond t (c .0) (firstOf xs)
+    go true n rest = refl
+    go false n rest = rest n
+
+pub firstOf-right : (xs ys : List (ℕ × Bool)) → numbered xs ≡ true → firstOf xs ≡ 0 → firstOf (xs ++ ys) ≡ firstOf ys
+firstOf-right xs ys n e = skip xs (none-pass xs n e)
+  where
+    skip : (xs : List (ℕ × Bool)) → NonePass xs → firstOf (xs ++ ys) ≡ firstOf ys
+    skip [] p = refl
+    skip (c ∷ xs) p = rw (p .0) (skip xs (p .1))
 
 -- ---- a chain of `&` or `|`, which code writes from the left, is the list of its tests
 

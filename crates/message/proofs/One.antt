@@ -5,7 +5,7 @@ use mathlib.Core.List.{List}
 use Prim.Native.Nat.{ℕ}
 use lib.Dec.{eqb}
 use lib.ListN.{length}
-use Rattle.fields.proofs.One.{one-result, one-answer}
+use Rattle.lists.proofs.One.{one-result, one-answer}
 use Rattle.message.specs.Calls.{writeSays, written, writtenTo, readSays, readOf, partOf, placeOf}
 use Rattle.message.specs.declared.Message.{Message}
 use Rattle.message.specs.declared.Found.{Found}

@@ -1,9 +1,10 @@
 -- What each test of a plan makes planning say, and back: what an answer says of the plan. Assumes nothing.
-use mathlib.Core.Path.{_≡_, refl, sym, ap, _∙_}
+use mathlib.Core.Path.{_≡_, refl}
 use mathlib.Core.Bool.{true, false, cond}
 use Prim.Native.Nat.{_≤_, _<_}
 use borrow.Author.Tests.{not-false, le-leb, lt-leb, leb-false}
 use lib.Dec.{eqb}
+use Rattle.lists.proofs.One.{one-answer}
 use Rattle.lists.proofs.TestLaws.{none-pass}
 use Rattle.network.specs.Network.{n, inRange, badLinks, worst, bounds, planTests, planRefusal, Said, refused, planned, says}
 use Rattle.network.specs.declared.Plan.{Plan}
@@ -55,8 +56,5 @@ answerOf-says OutOfRange = refl
 answerOf-says BadLink = refl
 answerOf-says Parted = refl
 
-pub says-one : (r s : Planned) → says r ≡ says s → r ≡ s
-says-one r s e = sym (answerOf-says r) ∙ ap answerOf e ∙ answerOf-says s
-
-pub one-plan : (p : Plan) (r s : Planned) → says r ≡ planned p → says s ≡ planned p → r ≡ s
-one-plan p r s x y = says-one r s (x ∙ sym y)
+pub plan-one : (p : Plan) (r s : Planned) → says r ≡ planned p → says s ≡ planned p → r ≡ s
+plan-one p = one-answer says answerOf answerOf-says

@@ -1,5 +1,5 @@
 -- An order is its kind, its image and its share: so sameness is equality, and its bytes say which order it is. Assumes nothing.
-use mathlib.Core.Path.{_≡_, refl, sym, ap, subst, _∙_}
+use mathlib.Core.Path.{_≡_, refl, sym, ap, subst}
 use mathlib.Core.Bool.{Bool, true, false, not, cond, _&&_, _||_}
 use mathlib.Core.List.{[], _++_}
 use Prim.Native.Nat.{ℕ, _≤_}
@@ -12,11 +12,6 @@ use Rattle.lists.proofs.Bools.{and-left, and-right, or-left, or-right}
 use Rattle.orders.specs.Orders.{kindOf, imageOf, shareOf, isKind, isShare, shareFits, sameOrder, orderOf, orderBytes, sizeOf, wrongSize, wrongValue}
 use Rattle.orders.specs.declared.Order.{Order}
 use Rattle.orders.specs.declared.Order.the-variants.{Publish, Halt, Resume, Withdraw}
-
--- ---- each promise admits one result only: it is an equation with a definition
-
-pub one-result : {A : Type 0} {defined r s : A} → r ≡ defined → s ≡ defined → r ≡ s
-one-result x y = x ∙ sym y
 
 -- ---- sameness
 

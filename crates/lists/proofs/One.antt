@@ -1,0 +1,11 @@
+-- Each promise admits one result only: it is an equation with a definition, and where it is of an answer's numbers, those are one-to-one.
+-- Assumes nothing.
+use mathlib.Core.Path.{_≡_, sym, ap, _∙_}
+
+-- a number, a truth, a list or a state that the promise names
+pub one-result : {A : Type 0} {defined r s : A} → r ≡ defined → s ≡ defined → r ≡ s
+one-result x y = x ∙ sym y
+
+-- an answer whose numbers the promise names, where the numbers lead back to the answer
+pub one-answer : {A B : Type 0} (says : A → B) (back : B → A) → ((a : A) → back (says a) ≡ a) → {defined : B} (r s : A) → says r ≡ defined → says s ≡ defined → r ≡ s
+one-answer says back leads r s x y = sym (leads r) ∙ ap back (one-result x y) ∙ leads s
