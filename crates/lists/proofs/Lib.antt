@@ -4,6 +4,7 @@ pub mod Bools
 pub mod TestLaws
 pub mod SearchLaws
 pub mod CountLaws
+pub mod MemberLaws
 pub mod Loops
 pub mod Places
 pub mod Order

@@ -1,5 +1,6 @@
 -- What the proofs of several functions use, and the laws for callers: Answers, Survivors, Partings, Limits.
 pub mod Bits
+pub mod Sizes
 pub mod Ranges
 pub mod Distances
 mod Masks

@@ -1,0 +1,11 @@
+-- The proof of demand 3 over the laws of any host.
+pub mod Laws
+pub mod Diffuse
+pub mod Life
+pub mod Starts
+pub mod Spread
+pub mod Reach
+pub mod Sequences
+pub mod Agreement
+pub mod Theorem
+pub mod Plans

@@ -1,0 +1,2 @@
+pub mod Hosts
+pub mod Run
