@@ -1,7 +1,25 @@
 // A host: its state, and the calls that make it, start an order, receive a copy and deliver what is due, by value.
+mod checks;
+mod entries;
+mod history;
+mod links;
+mod making;
+mod receiving;
+mod sound;
+mod starting;
+mod starts;
+mod states;
+mod ticking;
+mod unused;
+
 use clock::Reading;
+pub use making::make;
 use network::Plan;
 use orders::Order;
+pub use receiving::receive;
+pub use sound::is_sound;
+pub use starting::start;
+pub use ticking::tick;
 
 // An order under its name, which is its stamp and its source.
 pub struct Held {
@@ -46,9 +64,9 @@ pub enum Refusal {
     BadValue, // 23: a rule set other than 1 or 2, a stamp, hop or share out of range
 }
 
-// The answer to a making.
-pub enum MakeAnswer {
-    Fresh,
+// Whether a call was refused; the answer to a making.
+pub enum Verdict {
+    Clear,
     Refused(Refusal),
 }
 
@@ -66,7 +84,7 @@ pub enum TickAnswer {
 
 pub struct Made {
     pub host: Host,
-    pub answer: MakeAnswer,
+    pub answer: Verdict,
 }
 
 pub struct Acted {

@@ -1,12 +1,13 @@
 -- The laws of lists of tests. Assumes nothing.
 use mathlib.Core.Path.{_≡_, refl, sym, ap, _∙_}
-use mathlib.Core.Bool.{Bool, true, false, cond, _&&_, _||_, and-assoc, and-true, or-assoc, or-false}
+use mathlib.Core.Bool.{Bool, true, false, cond, _&&_, _||_, and-assoc, and-true, or-assoc, or-false, true≢false}
 use mathlib.Core.List.{List, [], _∷_}
-use Prim.Native.Nat.{ℕ, _<_}
+use Prim.Native.Nat.{ℕ, zero, suc, _<_}
 use native.Mathlib.Omega.{arith}
-use borrow.Author.Tests.{ltb-true}
-use lib.Dec.{ltb}
-use Rattle.lists.specs.Tests.{allOf, anyOf, firstOf}
+use borrow.Author.Tests.{ltb-true, eqb-true, ne-eqb}
+use lib.Dec.{ltb, eqb}
+use lib.ListN.{getD}
+use Rattle.lists.specs.Tests.{allOf, anyOf, firstOf, orIf}
 use Rattle.lists.proofs.Bools.{and-left, and-right, or-left, or-right}
 
 -- each test of the list has the value v
@@ -33,6 +34,17 @@ pub each-none : (ts : List Bool) → Each false ts → anyOf ts ≡ false
 unfolding anyOf
 each-none [] e = refl
 each-none (t ∷ ts) e = ap (λ (x : Bool). x || anyOf ts) (e .0) ∙ each-none ts (e .1)
+
+-- one test that fails, at place i
+pub all-miss : (ts : List Bool) (i : ℕ) → getD ts i true ≡ false → allOf ts ≡ false
+unfolding allOf
+all-miss [] i e = absurd (true≢false e)
+all-miss (t ∷ ts) zero e = ap (λ (x : Bool). x && allOf ts) e
+all-miss (t ∷ ts) (suc i) e = go t (all-miss ts i e)
+  where
+    go : (t : Bool) → allOf ts ≡ false → (t && allOf ts) ≡ false
+    go true h = h
+    go false h = refl
 
 -- every number of the list is above 0, as a refusal's is
 abbrev pub numbered : List (ℕ × Bool) → Bool
@@ -72,3 +84,27 @@ pub any-chain : (t : Bool) (ts : List Bool) → orLeft t ts ≡ anyOf (t ∷ ts)
 unfolding anyOf
 any-chain t [] = sym (or-false t)
 any-chain t (u ∷ ts) = any-chain (t || u) ts ∙ or-assoc t u (anyOf ts)
+
+-- ---- a chain of checks, each of which looks at what the one before found, is the order of checks
+
+abbrev firstLeft : ℕ → List (ℕ × Bool) → ℕ
+firstLeft r [] = r
+firstLeft r (c ∷ cs) = firstLeft (orIf r (c .0) (c .1)) cs
+
+first-left : (r : ℕ) (cs : List (ℕ × Bool)) → numbered cs ≡ true → firstLeft r cs ≡ cond (eqb r 0) (firstOf cs) r
+first-left r [] n = go (eqb r 0) refl
+  where
+    go : (t : Bool) → eqb r 0 ≡ t → r ≡ cond t 0 r
+    go true e = eqb-true r 0 e
+    go false e = refl
+first-left r (c ∷ cs) n = first-left (orIf r (c .0) (c .1)) cs (and-right (ltb 0 (c .0)) (numbered cs) n) ∙ go (eqb r 0) refl (c .1)
+  where
+    go : (t : Bool) → eqb r 0 ≡ t → (p : Bool) → cond (eqb (cond t (cond p (c .0) 0) r) 0) (firstOf cs) (cond t (cond p (c .0) 0) r) ≡ cond t (cond p (c .0) (firstOf cs)) r
+    go true e true =
+        let z : 0 < c .0 = ltb-true 0 (c .0) (and-left (ltb 0 (c .0)) (numbered cs) n) in
+        ap (λ (t : Bool). cond t (firstOf cs) (c .0)) (ne-eqb (c .0) 0 (λ q. let w : c .0 ≡ 0 = q in absurd (omega arith)))
+    go true e false = refl
+    go false e p = ap (λ (t : Bool). cond t (firstOf cs) r) e
+
+pub first-chain : (cs : List (ℕ × Bool)) → numbered cs ≡ true → firstLeft 0 cs ≡ firstOf cs
+first-chain cs n = first-left 0 cs n
