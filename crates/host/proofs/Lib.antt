@@ -1,4 +1,8 @@
 -- What the proofs of several functions use, and the laws for callers.
 pub mod Numbers
 pub mod Sets
+pub mod Blanks
 mod Slides
+pub mod Facts
+pub mod Writes
+mod Fresh

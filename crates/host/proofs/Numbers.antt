@@ -1,9 +1,9 @@
 -- The paper's numbers tell the refusals apart, and none is 0: so what an answer says tells the answer. Assumes nothing.
 use mathlib.Core.Path.{_≡_, refl, sym, ap, _∙_}
-use mathlib.Core.Bool.{false, cond}
+use mathlib.Core.Bool.{Bool, false, cond}
 use Prim.Native.Nat.{ℕ}
 use lib.Dec.{eqb}
-use Rattle.host.specs.Calls.{number, refusalOf, Said, says, SaidTick, saysTick}
+use Rattle.host.specs.Calls.{number, refusalOf, Said, says, saidBy, SaidTick, saysTick, saidByTick, unless}
 use Rattle.host.specs.declared.Refusal.{Refusal}
 use Rattle.host.specs.declared.Refusal.the-variants.{OutOfRange, BadLink, Parted, Unsound, BadReading, Behind, SameStart, WindowFull, HistoryFull, NotInPlan, Early, Late, Past, Known, OtherHeld, OwnNotHeld, ShortBuffer, BadValue}
 use Rattle.host.specs.declared.Verdict.{Verdict}
@@ -45,6 +45,16 @@ back BadValue = (refl, refl)
 -- a refusal's number is not 0, which stands for none
 pub not-none : (r : Refusal) → eqb (number r) 0 ≡ false
 not-none r = back r .1
+
+-- a refused call keeps what there was, and says its number and zero elsewhere
+pub kept : {A : Type 0} (r : Refusal) (k : ℕ) (after now : A) → number r ≡ k → now ≡ unless k after now
+kept {A} r k after now e = sym (ap (λ (j : ℕ). unless j after now) (sym e) ∙ ap (λ (t : Bool). cond t after now) (not-none r))
+
+pub says-refused : (r : Refusal) (k links hop : ℕ) → number r ≡ k → says (send.Refused r) ≡ saidBy k links hop
+says-refused r k links hop e = rw (← e, not-none r)
+
+pub tick-refused : (r : Refusal) (k count : ℕ) → number r ≡ k → saysTick (tick.Refused r) ≡ saidByTick k count
+tick-refused r k count e = rw (← e, not-none r)
 
 -- ---- the answer that says this
 

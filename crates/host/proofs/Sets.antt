@@ -1,14 +1,16 @@
 -- A set of numbers that pass a test, made from its last bit down: a turn of the loop that makes it, how large it is, and what is in it.
 -- Assumes nothing.
 use mathlib.Core.Path.{_≡_, refl, sym, ap, ap₂, _∙_}
-use mathlib.Core.Bool.{Bool, true, false, cond, _&&_}
+use mathlib.Core.Bool.{Bool, true, false, not, cond, _&&_, and-true}
 use Prim.Native.Nat.{ℕ, zero, suc, _+_, _-_, _*_, _/_, _%_, _^_, _≤_, _<_, zero-le, suc-le-suc}
 use native.Mathlib.Nat.{pow-succ'}
 use native.Mathlib.Omega.{arith}
+use borrow.Author.Tests.{ne-eqb}
 use lib.Dec.{ltb, eqb}
 use lib.Pow.{pow-mono}
-use Rattle.network.specs.Network.{has}
-use Rattle.host.specs.Calls.{setOf}
+use Rattle.network.specs.Network.{m, has}
+use Rattle.network.specs.declared.Plan.{Plan}
+use Rattle.host.specs.Calls.{setOf, ends, endsBut, ownLinks}
 
 -- tests that agree below k make one set
 pub set-same : (k : ℕ) (f g : ℕ → Bool) → ((i : ℕ) → i < k → f i ≡ g i) → setOf k f ≡ setOf k g
@@ -50,3 +52,8 @@ pub set-whole : (f : ℕ → Bool) (k i s : ℕ) → i ≤ 0 → s ≡ setOf (k 
 set-whole f k i s h e =
     let whole : k - i ≡ k = omega arith in
     e ∙ ap (λ (x : ℕ). setOf x (λ j. f (i + j))) whole ∙ set-same k (λ j. f (i + j)) f (λ j l. let q : i + j ≡ j = omega arith in ap f q)
+
+-- all own links, asked for as all but one that no plan has
+pub all-own : (p : Plan) (own : ℕ) → m p ≤ 12 → setOf (m p) (endsBut p own 255) ≡ ownLinks p own
+all-own p own h =
+    set-same (m p) (endsBut p own 255) (ends p own) (λ i l. let ne : i ≡ 255 → ⊥ = λ q. omega arith in ap (λ (t : Bool). ends p own i && not t) (ne-eqb i 255 ne) ∙ and-true (ends p own i))

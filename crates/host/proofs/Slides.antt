@@ -1,14 +1,18 @@
 -- The last four starts with one more: put behind fewer than four, or in place of the oldest of four. Assumes nothing.
 use mathlib.Core.Path.{_≡_, refl, sym, ap, _∙_}
 use mathlib.Core.List.{List, [], _∷_, _++_}
-use Prim.Native.Nat.{ℕ, _-_, _≤_, _<_}
+use Prim.Native.Nat.{ℕ, _+_, _-_, _≤_, _<_}
 use native.Mathlib.Omega.{arith}
-use lib.ListN.{length, take, drop, getD, set}
+use lib.ListN.{length, take, drop, getD, set, length-append, length-drop}
 use Rattle.lists.specs.Lists.{pad}
 use Rattle.lists.proofs.Places.{pad-more}
 use Rattle.clock.specs.declared.Reading.{Reading}
 use Rattle.host.specs.State.{noReading}
 use Rattle.host.specs.Calls.{withStart}
+
+pub with-length : (l : List Reading) (u : Reading) (k : ℕ) → length l ≡ k → length (withStart l u) ≡ k - (k - 3) + 1
+with-length l u k n =
+    length-append (drop (length l - 3) l) (u ∷ []) ∙ ap (λ (m : ℕ). m + 1) (length-drop (length l - 3) l) ∙ ap (λ (m : ℕ). m - (m - 3) + 1) n
 
 pub with-fewer : (l : List Reading) (u : Reading) → length l < 4 → withStart l u ≡ l ++ (u ∷ [])
 with-fewer l u h =

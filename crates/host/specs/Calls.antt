@@ -179,9 +179,9 @@ startSays h u o = saidBy (startRefusal h u o) (ownLinks (h .plan) (h .own)) (con
 abbrev pub withStart : List Reading → Reading → List Reading
 withStart l u = drop (length l - 3) l ++ (u ∷ [])
 
--- the state at a reading, with these starts and these orders held: "An accepted call sets the last reading to U"
-abbrev pub at : Host → Reading → List Reading → List Held → Host
-at h u starts held =
+-- the state at a reading, with these orders held: "An accepted call sets the last reading to U"
+abbrev pub at : Host → Reading → ℕ → List Reading → List Held → Host
+at h u started starts held =
     record {
       plan = h .plan;
       rules = h .rules;
@@ -189,18 +189,21 @@ at h u starts held =
       bound = h .bound;
       own = h .own;
       last = u;
-      started = length starts;
-      starts = pad 4 noReading starts;
+      started = started;
+      starts = starts;
       held = length held;
       history = pad 32 noHeld held;
     }
 
 -- "T = U. The order is held under (T, own number)"
-abbrev pub started : Host → Reading → Order → Held
-started h u o = record { stamp = u; source = h .own; order = o }
+abbrev pub startOf : Host → Reading → Order → Held
+startOf h u o = record { stamp = u; source = h .own; order = o }
 
 abbrev pub startHost : Host → Reading → Order → Host
-startHost h u o = unless (startRefusal h (u .0) o) (at h u (withStart (startsOf h) u) (insert before (started h u o) (heldOf h))) h
+startHost h u o =
+    unless (startRefusal h (u .0) o)
+    (at h u (length (withStart (startsOf h) u)) (pad 4 noReading (withStart (startsOf h) u)) (insert before (startOf h u o) (heldOf h)))
+    h
 
 -- ---- receive: "receive 9, 15, 23, 10, 11, 16, 17, 18, 19, 20, 21, 14"
 
@@ -261,7 +264,7 @@ abbrev pub receiveSays : Host → ℕ → ℕ → ℕ → Held → Said
 receiveSays h u arrival hop x = saidBy (receiveRefusal h u arrival hop x) (relayLinks h arrival hop) (relayHop (h .rules) hop)
 
 abbrev pub receiveHost : Host → Reading → ℕ → ℕ → Held → Host
-receiveHost h u arrival hop x = unless (receiveRefusal h (u .0) arrival hop x) (at h u (startsOf h) (insert before x (heldOf h))) h
+receiveHost h u arrival hop x = unless (receiveRefusal h (u .0) arrival hop x) (at h u (h .started) (h .starts) (insert before x (heldOf h))) h
 
 -- ---- tick: "tick 9, 10, 11, 22"
 
@@ -288,7 +291,7 @@ abbrev pub tickSays : Host → ℕ → ℕ → SaidTick
 tickSays h u room = saidByTick (tickRefusal h u room) (length (dueOf h u))
 
 abbrev pub tickHost : Host → Reading → ℕ → Host
-tickHost h u room = unless (tickRefusal h (u .0) room) (at h u (startsOf h) (waitingOf h (u .0))) h
+tickHost h u room = unless (tickRefusal h (u .0) room) (at h u (h .started) (h .starts) (waitingOf h (u .0))) h
 
 -- "written to the lent list .. Bytes after the last entry stay as they were"
 abbrev pub tickList : Host → ℕ → List ℕ → List ℕ

@@ -5,11 +5,12 @@ use clock::is_stamp;
 use orders::same;
 use orders::share_fits;
 ghost use mathlib.Core.Path.{_≡_};
+ghost use mathlib.Core.Bool.{true};
 ghost use mathlib.Core.List.{_++_, _∷_};
-ghost use Prim.Native.Nat.{_≤_, _<_};
-ghost use lib.ListN.{take, drop};
+ghost use Prim.Native.Nat.{_+_, _≤_, _<_};
+ghost use lib.ListN.{take, drop, length};
 ghost use Rattle.lists.specs.Lists.{all, any, rising, insert, pad};
-ghost use Rattle.host.specs.State.{noHeld, sameName, before, fits, ownStarted};
+ghost use Rattle.host.specs.State.{noHeld, isNoHeld, sameName, before, fits, ownStarted};
 ghost use Rattle.host.specs.Calls.{sameHeld, otherHeld};
 
 // What is held under an order's name.
@@ -124,8 +125,8 @@ fn is_started(e: Held, own: u8, started: usize, newest: Reading) -> bool
 
 // The history with one order more, in its place.
 pub(crate) fn with_held(history: [Held; 32], held: usize, x: Held) -> [Held; 32]
-    requires { ⌜ (held < 32) × (history ≡ pad 32 noHeld (take held history)) ⌝ }
-    ensures { λ r. ⌜ r ≡ pad 32 noHeld (insert before x (take held history)) ⌝ }
+    requires { ⌜ (held < 32) × (all isNoHeld (drop held history) ≡ true) ⌝ }
+    ensures { λ r. ⌜ (r ≡ pad 32 noHeld (insert before x (take held history))) × (length (insert before x (take held history)) ≡ held + 1) ⌝ }
 {
     put_in(history, place(history, held, x), x)
 }

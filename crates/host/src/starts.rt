@@ -1,10 +1,11 @@
 // The last four starts, oldest first.
 use clock::Reading;
 ghost use mathlib.Core.Path.{_≡_};
+ghost use mathlib.Core.Bool.{true};
 ghost use Prim.Native.Nat.{_+_, _-_, _≤_};
-ghost use lib.ListN.{take, getD, length};
+ghost use lib.ListN.{take, drop, getD, length};
 ghost use Rattle.lists.specs.Lists.{all, rising, pad};
-ghost use Rattle.host.specs.State.{noReading, earlier, notAbove};
+ghost use Rattle.host.specs.State.{noReading, isNoReading, earlier, notAbove};
 ghost use Rattle.host.specs.Calls.{withStart};
 
 // The last start; any reading where there is none.
@@ -63,8 +64,8 @@ fn is_passed(s: Reading, last: Reading) -> bool
 
 // The last four starts with one more.
 pub(crate) fn with_start(starts: [Reading; 4], started: usize, u: Reading) -> [Reading; 4]
-    requires { ⌜ (started ≤ 4) × (starts ≡ pad 4 noReading (take started starts)) ⌝ }
-    ensures { λ r. ⌜ r ≡ pad 4 noReading (withStart (take started starts) u) ⌝ }
+    requires { ⌜ (started ≤ 4) × (all isNoReading (drop started starts) ≡ true) ⌝ }
+    ensures { λ r. ⌜ (r ≡ pad 4 noReading (withStart (take started starts) u)) × (length (withStart (take started starts) u) ≡ started - (started - 3) + 1) ⌝ }
 {
     if started < 4 {
         let mut all = starts;

@@ -65,13 +65,19 @@ fn tick_accepted(host: Host, u: Reading, out: &mut [u8]) -> Ticked
     let starts = host.starts;
     let history = host.history;
     let held = host.held;
-    let n = count_due(history, held, host.bound, u);
-    write_due(out, history, held, host.bound, u);
-    let rest = without_due(history, held, host.bound, u);
+    let left = deliver(out, history, held, host.bound, u);
+    let rest = left.history;
     Ticked {
-        host: at_reading(host, u, starts, host.started, rest, held - n),
-        answer: TickAnswer::Delivered(n),
+        host: at_reading(host, u, starts, host.started, rest, left.held),
+        answer: TickAnswer::Delivered(left.delivered),
     }
+}
+
+// What a delivery leaves of the history, and how many it delivered.
+pub(crate) struct Rest {
+    pub delivered: usize,
+    pub held: usize,
+    pub history: [Held; 32],
 }
 
 // How many of those held are due.
@@ -91,38 +97,29 @@ fn count_due(history: [Held; 32], held: usize, bound: u64, u: Reading) -> usize
     n
 }
 
-// The entries of those that are due, written from the front.
-fn write_due(out: &mut [u8], history: [Held; 32], held: usize, bound: u64, u: Reading)
+// Writes the entries of those that are due from the front of the lent list, and keeps the others.
+fn deliver(out: &mut [u8], history: [Held; 32], held: usize, bound: u64, u: Reading) -> Rest
     requires { ⌜ (held ≤ 32) × (16 * length (keep (due bound (u .0)) (take held history)) ≤ length (now out)) ⌝ }
-    ensures { λ _. ⌜ now (out .exit) ≡ entriesOf (keep (due bound (u .0)) (take held history)) ++ drop (16 * length (keep (due bound (u .0)) (take held history))) (now (out .entry)) ⌝ }
+    ensures { λ r. ⌜ (r .delivered ≡ length (keep (due bound (u .0)) (take held history))) × ((r .held ≡ length (keep (λ (e : Held). not (due bound (u .0) e)) (take held history))) × ((r .history ≡ pad 32 noHeld (keep (λ (e : Held). not (due bound (u .0) e)) (take held history))) × (now (out .exit) ≡ entriesOf (keep (due bound (u .0)) (take held history)) ++ drop (16 * length (keep (due bound (u .0)) (take held history))) (now (out .entry))))) ⌝ }
 {
-    let mut n: usize = 0;
+    let mut rest = [no_held(); 32];
+    let mut waiting: usize = 0;
+    let mut delivered: usize = 0;
     let mut i = 0;
     while i < held {
         let e = history[i];
         i += 1;
         if reached(e.stamp, bound, u) {
-            put_entry(out, 16 * n, e);
-            n += 1;
+            put_entry(out, 16 * delivered, e);
+            delivered += 1;
+        } else {
+            rest[waiting] = e;
+            waiting += 1;
         }
     }
-}
-
-// The history without those that are due.
-fn without_due(history: [Held; 32], held: usize, bound: u64, u: Reading) -> [Held; 32]
-    requires { ⌜ held ≤ 32 ⌝ }
-    ensures { λ r. ⌜ r ≡ pad 32 noHeld (keep (λ (e : Held). not (due bound (u .0) e)) (take held history)) ⌝ }
-{
-    let mut rest = [no_held(); 32];
-    let mut n: usize = 0;
-    let mut i = 0;
-    while i < held {
-        let e = history[i];
-        i += 1;
-        if !reached(e.stamp, bound, u) {
-            rest[n] = e;
-            n += 1;
-        }
+    Rest {
+        delivered,
+        held: waiting,
+        history: rest,
     }
-    rest
 }

@@ -56,6 +56,14 @@ put-pad {A} N z x l k h kn =
     ∙ take-append-add ins R (N - length ins)
     ∙ ap (λ (t : List A). ins ++ t) (take-replicate z (N - length ins) (N - length l) (omega arith))
 
+pub length-insert : {A : Type 0} (r : A → A → Bool) (x : A) (l : List A) → length (insert r x l) ≡ length l + 1
+length-insert r x [] = refl
+length-insert {A} r x (y ∷ l) = go (r x y) (length-insert r x l)
+  where
+    go : (t : Bool) → length (insert r x l) ≡ length l + 1 → length (cond t (x ∷ y ∷ l) (y ∷ insert r x l)) ≡ length (y ∷ l) + 1
+    go true e = sym (add-one (length (y ∷ l)))
+    go false e = omega arith
+
 -- ---- the loop that looks for the place of x: what it passed, and x put into what is left
 
 module _ {A : Type 0} (r : A → A → Bool) (d x : A) (l : List A) (i : ℕ) (inv : insert r x l ≡ take i l ++ insert r x (drop i l)) where

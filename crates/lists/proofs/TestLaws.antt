@@ -1,7 +1,7 @@
 -- The laws of lists of tests. Assumes nothing.
-use mathlib.Core.Path.{_≡_, refl, sym, ap, _∙_}
+use mathlib.Core.Path.{_≡_, refl, sym, ap, ap₂, _∙_}
 use mathlib.Core.Bool.{Bool, true, false, cond, _&&_, _||_, and-assoc, and-true, or-assoc, or-false, true≢false}
-use mathlib.Core.List.{List, [], _∷_}
+use mathlib.Core.List.{List, [], _∷_, _++_}
 use Prim.Native.Nat.{ℕ, zero, suc, _<_}
 use native.Mathlib.Omega.{arith}
 use borrow.Author.Tests.{ltb-true, eqb-true, ne-eqb}
@@ -65,6 +65,18 @@ none-pass (c ∷ cs) n e = go (c .1) e refl (none-pass cs (and-right (ltb 0 (c .
     go true q s rest = let z : 0 < c .0 = ltb-true 0 (c .0) (and-left (ltb 0 (c .0)) (numbered cs) n) in absurd (omega arith)
     go false q s rest = (s, rest q)
 
+-- an order of checks that goes on with another
+pub first-join : (a b : List (ℕ × Bool)) → numbered a ≡ true → firstOf (a ++ b) ≡ cond (eqb (firstOf a) 0) (firstOf b) (firstOf a)
+first-join [] b n = refl
+first-join (c ∷ a) b n = go (c .1) (first-join a b (and-right (ltb 0 (c .0)) (numbered a) n))
+  where
+    go : (t : Bool) → firstOf (a ++ b) ≡ cond (eqb (firstOf a) 0) (firstOf b) (firstOf a)
+        → cond t (c .0) (firstOf (a ++ b)) ≡ cond (eqb (cond t (c .0) (firstOf a)) 0) (firstOf b) (cond t (c .0) (firstOf a))
+    go true e =
+        let z : 0 < c .0 = ltb-true 0 (c .0) (and-left (ltb 0 (c .0)) (numbered a) n) in
+        sym (ap (λ (t : Bool). cond t (firstOf b) (c .0)) (ne-eqb (c .0) 0 (λ q. let w : c .0 ≡ 0 = q in absurd (omega arith))))
+    go false e = e
+
 -- ---- a chain of `&` or `|`, which code writes from the left, is the list of its tests
 
 abbrev andLeft : Bool → List Bool → Bool
@@ -87,11 +99,12 @@ any-chain t (u ∷ ts) = any-chain (t || u) ts ∙ or-assoc t u (anyOf ts)
 
 -- ---- a chain of checks, each of which looks at what the one before found, is the order of checks
 
-abbrev firstLeft : ℕ → List (ℕ × Bool) → ℕ
+abbrev pub firstLeft : ℕ → List (ℕ × Bool) → ℕ
 firstLeft r [] = r
 firstLeft r (c ∷ cs) = firstLeft (orIf r (c .0) (c .1)) cs
 
 first-left : (r : ℕ) (cs : List (ℕ × Bool)) → numbered cs ≡ true → firstLeft r cs ≡ cond (eqb r 0) (firstOf cs) r
+unfolding orIf
 first-left r [] n = go (eqb r 0) refl
   where
     go : (t : Bool) → eqb r 0 ≡ t → r ≡ cond t 0 r
@@ -108,3 +121,7 @@ first-left r (c ∷ cs) n = first-left (orIf r (c .0) (c .1)) cs (and-right (ltb
 
 pub first-chain : (cs : List (ℕ × Bool)) → numbered cs ≡ true → firstLeft 0 cs ≡ firstOf cs
 first-chain cs n = first-left 0 cs n
+
+-- one check of the chain, with what it found before and its test by their definitions
+pub or-step : {r found′ : ℕ} {t′ : Bool} (found k : ℕ) (t : Bool) → r ≡ orIf found k t → found ≡ found′ → t ≡ t′ → r ≡ orIf found′ k t′
+or-step found k t e f g = e ∙ ap₂ (λ (x : ℕ) (y : Bool). orIf x k y) f g

@@ -20,5 +20,5 @@ firstOf [] = 0
 firstOf (c ∷ cs) = cond (c .1) (c .0) (firstOf cs)
 
 -- one check more of an order of checks: what was found so far, or where that is 0 the number of a test that passes
-abbrev pub orIf : ℕ → ℕ → Bool → ℕ
+unfoldable pub orIf : ℕ → ℕ → Bool → ℕ
 orIf found number test = cond (eqb found 0) (cond test number 0) found
