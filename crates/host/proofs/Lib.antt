@@ -6,3 +6,5 @@ mod Slides
 pub mod Facts
 pub mod Writes
 mod Fresh
+pub mod Names
+pub mod Keeps

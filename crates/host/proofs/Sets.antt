@@ -3,13 +3,14 @@
 use mathlib.Core.Path.{_≡_, refl, sym, ap, ap₂, _∙_}
 use mathlib.Core.Bool.{Bool, true, false, not, cond, _&&_, and-true}
 use Prim.Native.Nat.{ℕ, zero, suc, _+_, _-_, _*_, _/_, _%_, _^_, _≤_, _<_, zero-le, suc-le-suc}
-use native.Mathlib.Nat.{pow-succ'}
+use native.Mathlib.Nat.{pow-succ', div-one, div-div-eq-div-mul}
 use native.Mathlib.Omega.{arith}
-use borrow.Author.Tests.{ne-eqb}
+use borrow.Author.Tests.{ne-eqb, lt-ltb, le-ltb, ltb-true, ltb-false}
 use lib.Dec.{ltb, eqb}
 use lib.Pow.{pow-mono}
 use Rattle.network.specs.Network.{m, has}
 use Rattle.network.specs.declared.Plan.{Plan}
+use Rattle.network.proofs.Bits.{has-none}
 use Rattle.host.specs.Calls.{setOf, ends, endsBut, ownLinks}
 
 -- tests that agree below k make one set
@@ -57,3 +58,38 @@ set-whole f k i s h e =
 pub all-own : (p : Plan) (own : ℕ) → m p ≤ 12 → setOf (m p) (endsBut p own 255) ≡ ownLinks p own
 all-own p own h =
     set-same (m p) (endsBut p own 255) (ends p own) (λ i l. let ne : i ≡ 255 → ⊥ = λ q. omega arith in ap (λ (t : Bool). ends p own i && not t) (ne-eqb i 255 ne) ∙ and-true (ends p own i))
+
+-- ---- what is in the set
+
+low-bit : (t : Bool) (s : ℕ) → (cond t 1 0 + 2 * s) % 2 ≡ cond t 1 0
+low-bit true s = omega arith
+low-bit false s = omega arith
+
+high-bits : (t : Bool) (s : ℕ) → (cond t 1 0 + 2 * s) / 2 ≡ s
+high-bits true s = omega arith
+high-bits false s = omega arith
+
+is-one : (t : Bool) → eqb (cond t 1 0) 1 ≡ t
+is-one true = refl
+is-one false = refl
+
+pub set-has : (k : ℕ) (f : ℕ → Bool) (i : ℕ) → has (setOf k f) i ≡ (ltb i k && f i)
+unfolding setOf has
+set-has zero f i = has-none i ∙ sym (ap (λ (t : Bool). t && f i) (le-ltb i 0 zero-le))
+set-has (suc k) f zero =
+    ap (λ (x : ℕ). eqb (x % 2) 1) (div-one (cond (f 0) 1 0 + 2 * setOf k (λ j. f (suc j))))
+    ∙ ap (λ (x : ℕ). eqb x 1) (low-bit (f 0) (setOf k (λ j. f (suc j)))) ∙ is-one (f 0) ∙ sym (ap (λ (t : Bool). t && f 0) (lt-ltb 0 (suc k) (suc-le-suc zero-le)))
+set-has (suc k) f (suc i) =
+    let s : ℕ = setOf k (λ j. f (suc j)) in
+    ap (λ (x : ℕ). eqb ((cond (f 0) 1 0 + 2 * s) / x % 2) 1) (pow-succ' 2 i)
+    ∙ ap (λ (x : ℕ). eqb (x % 2) 1) (sym (div-div-eq-div-mul (cond (f 0) 1 0 + 2 * s) 2 (2 ^ i)))
+    ∙ ap (λ (x : ℕ). eqb (x / 2 ^ i % 2) 1) (high-bits (f 0) s)
+    ∙ set-has k (λ j. f (suc j)) i
+    ∙ ap (λ (t : Bool). t && f (suc i)) (below-suc i k)
+  where
+    below-suc : (i k : ℕ) → ltb i k ≡ ltb (suc i) (suc k)
+    below-suc i k = go (ltb i k) refl
+      where
+        go : (t : Bool) → ltb i k ≡ t → t ≡ ltb (suc i) (suc k)
+        go true e = sym (lt-ltb (suc i) (suc k) (suc-le-suc (ltb-true i k e)))
+        go false e = sym (le-ltb (suc i) (suc k) (suc-le-suc (ltb-false i k e)))

@@ -1,9 +1,10 @@
 -- A host's state, and which states are sound (01, "A host's calls" and "Sound means"). Assumes nothing.
+use mathlib.Core.Path.{_≡_}
 use mathlib.Core.Bool.{Bool, not, _&&_, _||_}
 use mathlib.Core.List.{List, [], _∷_}
 use Prim.Native.Nat.{ℕ, _-_}
 use lib.Dec.{leb, ltb, eqb}
-use lib.ListN.{getD, take, drop}
+use lib.ListN.{length, getD, take, drop}
 use Rattle.lists.specs.Tests.{allOf}
 use Rattle.lists.specs.Lists.{all, rising}
 use Rattle.clock.specs.Clock.{largestStamp}
@@ -97,3 +98,8 @@ soundTests h =
 
 abbrev pub sound : Host → Bool
 sound h = allOf (soundTests h)
+
+-- the arrays have the lengths that their types state
+pub record Sized (h : Host) : Type 0 where
+  pub starts : length (h .starts) ≡ 4
+  pub history : length (h .history) ≡ 32

@@ -42,3 +42,20 @@ module _ (f g : ℕ → Bool) (up : (i : ℕ) → f i ≡ true → g i ≡ true)
 
 pub count-pos : (n i : ℕ) (f : ℕ → Bool) → i < n → f i ≡ true → 0 < count n f
 count-pos n i f h e = lt-of-le-of-lt zero-le (count-more (λ j. false) f (λ j z. absurd (false≢true z)) n i h refl e)
+
+-- counted from the other end
+pub count-low : (n : ℕ) (f : ℕ → Bool) → count (suc n) f ≡ cond (f 0) (suc (count n (λ i. f (suc i)))) (count n (λ i. f (suc i)))
+unfolding count
+count-low zero f = refl
+count-low (suc n) f = ap (λ (c : ℕ). cond (f (suc n)) (suc c) c) (count-low n f) ∙ swap (f (suc n)) (f 0) (count n (λ i. f (suc i)))
+  where
+    swap : (s t : Bool) (x : ℕ) → cond s (suc (cond t (suc x) x)) (cond t (suc x) x) ≡ cond t (suc (cond s (suc x) x)) (cond s (suc x) x)
+    swap true true x = refl
+    swap true false x = refl
+    swap false true x = refl
+    swap false false x = refl
+
+pub count-same : (n : ℕ) (f g : ℕ → Bool) → ((i : ℕ) → f i ≡ g i) → count n f ≡ count n g
+unfolding count
+count-same zero f g e = refl
+count-same (suc n) f g e = rw (e n, count-same n f g e)

@@ -3,7 +3,10 @@ pub mod Bools
 pub mod TestLaws
 pub mod SearchLaws
 pub mod CountLaws
+pub mod MemberLaws
 pub mod Loops
 pub mod Places
 pub mod Order
+pub mod Listed
+pub mod Rises
 pub mod ByteLaws

@@ -9,6 +9,7 @@ use native.Mathlib.Omega.{arith}
 use lib.ListN.{length, take, drop, getD, drop-of-length-le, length-append}
 use lib.Seq.{drop-cons, getD-take, length-take-le, take-suc, take-add}
 use Rattle.lists.specs.Lists.{all, any, risingFrom, rising, keep}
+use Rattle.lists.proofs.Bools.{and-left, and-right}
 
 -- ---- what is left
 
@@ -102,3 +103,9 @@ keep-both {A} p (x ∷ l) = go (p x) (keep-both p l)
         → length (cond t (x ∷ keep p l) (keep p l)) + length (cond (not t) (x ∷ keep (λ (x : A). not (p x)) l) (keep (λ (x : A). not (p x)) l)) ≡ suc (length l)
     go true ih = omega arith
     go false ih = omega arith
+
+-- what passes at every element passes at each place
+pub all-at : {A : Type 0} (p : A → Bool) (d : A) (l : List A) (i : ℕ) → i < length l → all p l ≡ true → p (getD l i d) ≡ true
+all-at p d [] i h e = let f : ⊥ = omega arith in absurd f
+all-at p d (x ∷ l) zero h e = and-left (p x) (all p l) e
+all-at p d (x ∷ l) (suc i) h e = all-at p d l i (omega arith) (and-right (p x) (all p l) e)

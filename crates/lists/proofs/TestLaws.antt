@@ -1,14 +1,18 @@
 -- The laws of lists of tests. Assumes nothing.
 use mathlib.Core.Path.{_≡_, refl, sym, ap, ap₂, _∙_}
-use mathlib.Core.Bool.{Bool, true, false, cond, _&&_, _||_, and-assoc, and-true, or-assoc, or-false, true≢false}
-use mathlib.Core.List.{List, [], _∷_, _++_}
+use mathlib.Core.Bool.{Bool, true, false, not, cond, _&&_, _||_, and-assoc, and-true, or-assoc, or-false, true≢false}
+use mathlib.Core.Logic.{inl, inr}
+use mathlib.Core.List.{List, [], _∷_, _++_, map}
 use Prim.Native.Nat.{ℕ, zero, suc, _<_}
 use native.Mathlib.Omega.{arith}
-use borrow.Author.Tests.{ltb-true, eqb-true, ne-eqb}
+use borrow.Author.Tests.{not-true, ltb-true, eqb-true, eqb-false, eq-eqb, ne-eqb}
 use lib.Dec.{ltb, eqb}
 use lib.ListN.{getD}
 use Rattle.lists.specs.Tests.{allOf, anyOf, firstOf, orIf}
+use Rattle.lists.specs.Lists.{any}
+use Rattle.lists.specs.Members.{In}
 use Rattle.lists.proofs.Bools.{and-left, and-right, or-left, or-right}
+use Rattle.lists.proofs.Listed.{none-member}
 
 -- each test of the list has the value v
 abbrev pub Each : Bool → List Bool → Type 0
@@ -64,6 +68,44 @@ none-pass (c ∷ cs) n e = go (c .1) e refl (none-pass cs (and-right (ltb 0 (c .
     go : (t : Bool) → cond t (c .0) (firstOf cs) ≡ 0 → c .1 ≡ t → (firstOf cs ≡ 0 → NonePass cs) → (c .1 ≡ false) × NonePass cs
     go true q s rest = let z : 0 < c .0 = ltb-true 0 (c .0) (and-left (ltb 0 (c .0)) (numbered cs) n) in absurd (omega arith)
     go false q s rest = (s, rest q)
+
+-- the number found is 0 or a test's
+pub first-among : (cs : List (ℕ × Bool)) → In (firstOf cs) (0 ∷ map (λ (c : ℕ × Bool). c .0) cs)
+first-among [] = inl refl
+first-among (c ∷ cs) = go (c .1) (first-among cs)
+  where
+    go : (t : Bool) → In (firstOf cs) (0 ∷ map (λ (c : ℕ × Bool). c .0) cs) → In (cond t (c .0) (firstOf cs)) (0 ∷ c .0 ∷ map (λ (c : ℕ × Bool). c .0) cs)
+    go true h = inr (inl refl)
+    go false (inl e) = inl e
+    go false (inr h) = inr (inr h)
+
+-- what is known where k was found: the tests before its own failed, and its own passed; for 0, all failed
+abbrev pub Found : ℕ → List (ℕ × Bool) → Type 0
+Found k [] = k ≡ 0
+Found k (c ∷ cs) = cond (eqb k (c .0)) (c .1 ≡ true) ((c .1 ≡ false) × Found k cs)
+
+-- no number of the list is 0 or comes twice
+abbrev pub apart : List (ℕ × Bool) → Bool
+apart [] = true
+apart (c ∷ cs) = not (any (eqb (c .0)) (0 ∷ map (λ (c : ℕ × Bool). c .0) cs)) && apart cs
+
+pub found : (cs : List (ℕ × Bool)) (k : ℕ) → apart cs ≡ true → firstOf cs ≡ k → Found k cs
+found [] k n e = sym e
+found (c ∷ cs) k n e = go (c .1) refl e (eqb k (c .0)) refl (found cs k (and-right other (apart cs) n))
+  where
+    numbers : List ℕ
+    numbers = 0 ∷ map (λ (c : ℕ × Bool). c .0) cs
+
+    other : Bool
+    other = not (any (eqb (c .0)) numbers)
+
+    go : (t : Bool) → c .1 ≡ t → cond t (c .0) (firstOf cs) ≡ k → (s : Bool) → eqb k (c .0) ≡ s → (firstOf cs ≡ k → Found k cs) → cond s (c .1 ≡ true) ((c .1 ≡ false) × Found k cs)
+    go true q e true w rest = q
+    go true q e false w rest = absurd (eqb-false k (c .0) w (sym e))
+    go false q e false w rest = (q, rest e)
+    go false q e true w rest =
+        let same : c .0 ≡ firstOf cs = sym (eqb-true k (c .0) w) ∙ sym e in
+        absurd (true≢false (sym (eq-eqb (c .0) (firstOf cs) same) ∙ none-member (eqb (c .0)) numbers (not-true (any (eqb (c .0)) numbers) (and-left other (apart cs) n)) (firstOf cs) (first-among cs)))
 
 -- an order of checks that goes on with another
 pub first-join : (a b : List (ℕ × Bool)) → numbered a ≡ true → firstOf (a ++ b) ≡ cond (eqb (firstOf a) 0) (firstOf b) (firstOf a)
