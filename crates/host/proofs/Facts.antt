@@ -4,13 +4,13 @@ use mathlib.Core.Bool.{Bool, true, false, not, cond, _&&_}
 use mathlib.Core.List.{List, [], _∷_}
 use Prim.Native.Nat.{ℕ, _+_, _*_, _-_, _≤_, _<_}
 use native.Mathlib.Omega.{arith}
-use borrow.Author.Tests.{not-false, not-true, leb-true, leb-false, ltb-true, ltb-false, le-leb, lt-ltb, eqb-true, eq-eqb}
+use borrow.Author.Tests.{not-false, not-true, leb-true, leb-false, ltb-true, ltb-false, le-leb, lt-leb, lt-ltb, le-ltb, eqb-true, eq-eqb}
 use lib.Dec.{leb, ltb, eqb}
 use lib.ListN.{length, getD, drop}
 use Rattle.lists.specs.Tests.{firstOf}
 use Rattle.lists.specs.Lists.{all, any, rising}
 use Rattle.lists.proofs.Bools.{and-left, and-right}
-use Rattle.lists.proofs.TestLaws.{Each, all-each, each-all, none-pass, numbered, firstLeft, first-chain}
+use Rattle.lists.proofs.TestLaws.{Each, all-each, each-all, none-pass, pass-none, numbered, firstLeft, first-chain}
 use Rattle.clock.specs.Clock.{largestReading, largestStamp}
 use Rattle.orders.specs.Orders.{shareFits}
 use Rattle.orders.specs.Rules.{isRules, hopFits}
@@ -132,6 +132,12 @@ start-is h u o e =
       room = leb-false _ _ (t .1 .1 .1 .1 .1 .1 .0);
     }
 
+pub start-runs : (h : Host) (u : ℕ) (o : Order) → StartIs h u o → startRefusal h u o ≡ 0
+unfolding startTests
+start-runs h u o k =
+    pass-none (startTests h u o)
+    (ap not (is-sound h (k .sound)), (ap not (k .share), (ap not (le-leb _ _ (k .stamp)), (le-ltb _ _ (k .later), (k .not-again, (k .in-window, (lt-leb _ _ (k .room), tt)))))))
+
 -- a received copy that is not refused
 pub record ReceiveIs (h : Host) (u arrival hop : ℕ) (x : Held) : Type 0 where
   pub sound : SoundIs h
@@ -184,6 +190,14 @@ receive-is h u arrival hop x e =
       room = leb-false _ _ (t5 .1 .1 .1 .1 .1 .1 .0);
     }
 
+pub receive-runs : (h : Host) (u arrival hop : ℕ) (x : Held) → ReceiveIs h u arrival hop x → receiveRefusal h u arrival hop x ≡ 0
+unfolding receiveTests
+receive-runs h u arrival hop x k =
+    pass-none (receiveTests h u arrival hop x)
+    (ap not (is-sound h (k .sound)), (simp (lt-ltb _ _ (k .arrival-below), k .arrival-own, lt-ltb _ _ (k .source)), (simp (le-leb _ _ (k .stamp), k .hop-fits, k .share),
+    (ap not (le-leb _ _ (k .reading)), (le-ltb _ _ (k .later), (k .not-early, (k .not-late, (lt-leb _ _ (k .before-due),
+    (k .not-known, (k .not-other, (k .not-own, (lt-leb _ _ (k .room), tt))))))))))))
+
 -- a tick that is not refused
 pub record TickIs (h : Host) (u room : ℕ) : Type 0 where
   pub sound : SoundIs h
@@ -201,6 +215,11 @@ tick-is h u room e =
       later = ltb-false _ _ (t .1 .1 .0);
       fits = ltb-false _ _ (t .1 .1 .1 .0);
     }
+
+pub tick-runs : (h : Host) (u room : ℕ) → TickIs h u room → tickRefusal h u room ≡ 0
+unfolding tickTests
+tick-runs h u room k =
+    pass-none (tickTests h u room) (ap not (is-sound h (k .sound)), (ap not (le-leb _ _ (k .reading)), (le-ltb _ _ (k .later), (le-ltb _ _ (k .fits), tt))))
 
 pub hop-most : (rules hop : ℕ) → hopFits rules hop ≡ true → hop ≤ 8
 hop-most rules hop = go (eqb rules 2)

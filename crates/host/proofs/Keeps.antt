@@ -25,7 +25,7 @@ use Rattle.network.specs.Network as net
 use Rattle.host.specs.declared.Held.{Held}
 use Rattle.host.specs.declared.Host.{Host}
 use Rattle.host.specs.State.{noReading, noHeld, isNoReading, isNoHeld, startsOf, heldOf, lastStart, sameName, before, earlier, fits, ownStarted, notAbove, sound, Sized}
-use Rattle.host.specs.Calls.{at, withStart, startOf, startRefusal, startHost, sameHeld, otherHeld, receiveRefusal, receiveHost, due, dueOf, waitingOf, tickRefusal, tickHost}
+use Rattle.host.specs.Calls.{at, withStart, startOf, afterStart, sameHeld, otherHeld, afterReceive, due, waitingOf, afterTick}
 use Rattle.host.proofs.Names.{name-is, before-trans, before-total}
 use Rattle.host.proofs.Slides.{with-length}
 use Rattle.host.proofs.Facts.{SoundIs, sound-is, is-sound, StartIs, start-is, ReceiveIs, receive-is, TickIs, tick-is}
@@ -86,7 +86,7 @@ insert-rises h x s new = insert-rising before (sameName x) x (before-total x) (h
 pub held-most : (h : Host) → length (heldOf h) ≤ h .held
 held-most h = rw (length-take (h .held) (h .history)) (min-le-left (h .held) (length (h .history)))
 
-insert-few : (h : Host) (x : Held) → h .held < 32 → length (insert before x (heldOf h)) ≤ 32
+pub insert-few : (h : Host) (x : Held) → h .held < 32 → length (insert before x (heldOf h)) ≤ 32
 insert-few h x room = let long = length-insert before x (heldOf h) in omega (arith, held-most h)
 
 -- what may be held of the host's own: y is another's, or its stamp is at most the last start
@@ -119,7 +119,7 @@ new-name x l same other =
 pub other-source : (h : Host) (x : Held) → any (sameName x) (heldOf h) ≡ false → (eqb (x .source) (h .own) && not (any (sameName x) (heldOf h))) ≡ false → eqb (x .source) (h .own) ≡ false
 other-source h x new e = sym (and-true (eqb (x .source) (h .own))) ∙ (rw new at e)
 
-receive-keeps : (h : Host) (u : Reading) (arrival hop : ℕ) (x : Held) → ReceiveIs h (u .0) arrival hop x → SoundIs (at h u (h .started) (h .starts) (insert before x (heldOf h)))
+pub receive-keeps : (h : Host) (u : Reading) (arrival hop : ℕ) (x : Held) → ReceiveIs h (u .0) arrival hop x → SoundIs (afterReceive h u x)
 receive-keeps h u arrival hop x k =
     let s = k .sound in
     let new : any (sameName x) (heldOf h) ≡ false = new-name x (heldOf h) (k .not-known) (k .not-other) in
@@ -135,7 +135,7 @@ receive-keeps h u arrival hop x k =
 
 -- ---- tick
 
-tick-keeps : (h : Host) (u : Reading) (room : ℕ) → TickIs h (u .0) room → SoundIs (at h u (h .started) (h .starts) (waitingOf h (u .0)))
+pub tick-keeps : (h : Host) (u : Reading) (room : ℕ) → TickIs h (u .0) room → SoundIs (afterTick h u)
 tick-keeps h u room k =
     let s = k .sound in
     let w : Held → Bool = λ e. not (due (h .bound) (u .0) e) in
@@ -145,6 +145,9 @@ tick-keeps h u room k =
     (keep-rising before before-trans w (heldOf h) (s .rise)) (k .later) (all-keep (ownStarted (h .own) (h .started) (lastStart h)) w (heldOf h) (s .own-started))
 
 -- ---- start
+
+pub starts-most : (l : List Reading) (u : Reading) → length (withStart l u) ≤ 4
+starts-most l u = let long = with-length l u (length l) refl in omega arith
 
 module _ (h : Host) (z : Sized h) (u : Reading) (o : Order) (k : StartIs h (u .0) o) where
   s : SoundIs h
@@ -209,9 +212,6 @@ module _ (h : Host) (z : Sized h) (u : Reading) (o : Order) (k : StartIs h (u .0
   ws : List Reading
   ws = withStart (startsOf h) u
 
-  ws-most : length ws ≤ 4
-  unfolding ws
-  ws-most = let long = with-length (startsOf h) u (length (startsOf h)) refl in omega arith
 
   -- the last of the new starts is the reading
   pub newest-is : getD (pad 4 noReading (withStart (startsOf h) u)) (length (withStart (startsOf h) u) - 1) noReading ≡ u
@@ -222,7 +222,7 @@ module _ (h : Host) (z : Sized h) (u : Reading) (o : Order) (k : StartIs h (u .0
       ap (λ (t : List Reading). getD t (length (withStart (startsOf h) u) - 1) noReading) (append-assoc old (u ∷ []) rest)
       ∙ getD-at old u rest noReading (length (old ++ (u ∷ [])) - 1) (omega arith)
 
-  start-keeps : SoundIs (at h u (length (withStart (startsOf h) u)) (pad 4 noReading (withStart (startsOf h) u)) (insert before (startOf h u o) (heldOf h)))
+  pub start-keeps : SoundIs (afterStart h u o)
   unfolding s ws
   start-keeps =
       let x = startOf h u o in
@@ -236,7 +236,7 @@ module _ (h : Host) (z : Sized h) (u : Reading) (o : Order) (k : StartIs h (u .0
       at-sound h s u (insert before x (heldOf h)) (insert-few h x (k .room))
       (insert-fits h x s (simp (le-leb _ _ (k .stamp), lt-ltb _ _ (s .own), k .share)))
       (insert-rises h x s new-start)
-      (length ws) (pad 4 noReading ws) ws-most
+      (length ws) (pad 4 noReading ws) (starts-most (startsOf h) u)
       (subst (λ (t : List Reading). rising earlier t ≡ true) same (rising-snoc earlier u old (rising-drop earlier (length (startsOf h) - 3) (startsOf h) (s .starts-rise)) below))
       (subst (λ (t : List Reading). all (notAbove (u .0)) t ≡ true) same passed)
       (drop-pad isNoReading noReading 4 ws (length ws) refl (le-refl (length ws)))

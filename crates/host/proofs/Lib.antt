@@ -8,3 +8,4 @@ pub mod Writes
 mod Fresh
 pub mod Names
 pub mod Keeps
+pub mod Outcomes

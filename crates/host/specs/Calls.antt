@@ -199,11 +199,11 @@ at h u started starts held =
 abbrev pub startOf : Host → Reading → Order → Held
 startOf h u o = record { stamp = u; source = h .own; order = o }
 
+abbrev pub afterStart : Host → Reading → Order → Host
+afterStart h u o = at h u (length (withStart (startsOf h) u)) (pad 4 noReading (withStart (startsOf h) u)) (insert before (startOf h u o) (heldOf h))
+
 abbrev pub startHost : Host → Reading → Order → Host
-startHost h u o =
-    unless (startRefusal h (u .0) o)
-    (at h u (length (withStart (startsOf h) u)) (pad 4 noReading (withStart (startsOf h) u)) (insert before (startOf h u o) (heldOf h)))
-    h
+startHost h u o = unless (startRefusal h (u .0) o) (afterStart h u o) h
 
 -- ---- receive: "receive 9, 15, 23, 10, 11, 16, 17, 18, 19, 20, 21, 14"
 
@@ -263,8 +263,11 @@ relayHop rules hop = cond (eqb hop 8) 0 (cond (eqb rules 2) (hop + 1) 0)
 abbrev pub receiveSays : Host → ℕ → ℕ → ℕ → Held → Said
 receiveSays h u arrival hop x = saidBy (receiveRefusal h u arrival hop x) (relayLinks h arrival hop) (relayHop (h .rules) hop)
 
+abbrev pub afterReceive : Host → Reading → Held → Host
+afterReceive h u x = at h u (h .started) (h .starts) (insert before x (heldOf h))
+
 abbrev pub receiveHost : Host → Reading → ℕ → ℕ → Held → Host
-receiveHost h u arrival hop x = unless (receiveRefusal h (u .0) arrival hop x) (at h u (h .started) (h .starts) (insert before x (heldOf h))) h
+receiveHost h u arrival hop x = unless (receiveRefusal h (u .0) arrival hop x) (afterReceive h u x) h
 
 -- ---- tick: "tick 9, 10, 11, 22"
 
@@ -290,9 +293,34 @@ tickRefusal h u room = firstOf (tickTests h u room)
 abbrev pub tickSays : Host → ℕ → ℕ → SaidTick
 tickSays h u room = saidByTick (tickRefusal h u room) (length (dueOf h u))
 
+abbrev pub afterTick : Host → Reading → Host
+afterTick h u = at h u (h .started) (h .starts) (waitingOf h (u .0))
+
 abbrev pub tickHost : Host → Reading → ℕ → Host
-tickHost h u room = unless (tickRefusal h (u .0) room) (at h u (h .started) (h .starts) (waitingOf h (u .0))) h
+tickHost h u room = unless (tickRefusal h (u .0) room) (afterTick h u) h
 
 -- "written to the lent list .. Bytes after the last entry stay as they were"
 abbrev pub tickList : Host → ℕ → List ℕ → List ℕ
 tickList h u out = unless (tickRefusal h u (length out)) (entriesOf (dueOf h u) ++ drop (16 * length (dueOf h u)) out) out
+
+-- ---- the three calls at a reading as one
+
+-- an order to start; a link, a hop and a copy to receive; the length of the list lent to a tick
+pub data Call : Type 0 where
+  start : Order → Call
+  receive : ℕ → ℕ → Held → Call
+  ticks : ℕ → Call
+
+abbrev pub refusal : Host → ℕ → Call → ℕ
+refusal h u (start o) = startRefusal h u o
+refusal h u (receive arrival hop x) = receiveRefusal h u arrival hop x
+refusal h u (ticks room) = tickRefusal h u room
+
+-- the state after an accepted call, and after any call
+abbrev pub becomes : Host → Reading → Call → Host
+becomes h u (start o) = afterStart h u o
+becomes h u (receive arrival hop x) = afterReceive h u x
+becomes h u (ticks room) = afterTick h u
+
+abbrev pub after : Host → Reading → Call → Host
+after h u c = unless (refusal h (u .0) c) (becomes h u c) h

@@ -85,6 +85,19 @@ drop-pad {A} p z N l k e h =
     none (suc i) zero = rw (e, none i zero)
     none (suc i) (suc j) = none i j
 
+pub getD-pad : {A : Type 0} (N : ℕ) (z : A) (l : List A) (i : ℕ) → getD (pad N z l) i z ≡ getD l i z
+getD-pad {A} N z l i = go (N - length l) l i
+  where
+    blank : (k i : ℕ) → getD (replicate k z) i z ≡ z
+    blank zero i = refl
+    blank (suc k) zero = refl
+    blank (suc k) (suc i) = blank k i
+
+    go : (k : ℕ) (l : List A) (i : ℕ) → getD (l ++ replicate k z) i z ≡ getD l i z
+    go k [] i = blank k i
+    go k (x ∷ l) zero = refl
+    go k (x ∷ l) (suc i) = go k l i
+
 pub length-pad : {A : Type 0} (N : ℕ) (z : A) (l : List A) → length l ≤ N → length (pad N z l) ≡ N
 length-pad N z l h = length-append l (replicate (N - length l) z) ∙ ap (λ (k : ℕ). length l + k) (length-replicate (N - length l) z) ∙ (let whole : length l + (N - length l) ≡ N = omega arith in whole)
 

@@ -69,6 +69,10 @@ none-pass (c ∷ cs) n e = go (c .1) e refl (none-pass cs (and-right (ltb 0 (c .
     go true q s rest = let z : 0 < c .0 = ltb-true 0 (c .0) (and-left (ltb 0 (c .0)) (numbered cs) n) in absurd (omega arith)
     go false q s rest = (s, rest q)
 
+pub pass-none : (cs : List (ℕ × Bool)) → NonePass cs → firstOf cs ≡ 0
+pass-none [] n = refl
+pass-none (c ∷ cs) n = ap (λ (t : Bool). cond t (c .0) (firstOf cs)) (n .0) ∙ pass-none cs (n .1)
+
 -- the number found is 0 or a test's
 pub first-among : (cs : List (ℕ × Bool)) → In (firstOf cs) (0 ∷ map (λ (c : ℕ × Bool). c .0) cs)
 first-among [] = inl refl
