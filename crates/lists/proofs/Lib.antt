@@ -8,4 +8,6 @@ pub mod MemberLaws
 pub mod Loops
 pub mod Places
 pub mod Order
+pub mod Listed
+pub mod Rises
 pub mod ByteLaws

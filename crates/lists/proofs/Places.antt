@@ -5,8 +5,8 @@ use mathlib.Core.List.{List, [], _∷_, _++_, append-assoc, append-nil}
 use Prim.Native.Nat.{ℕ, zero, suc, _+_, _-_, _≤_, _<_}
 use native.Mathlib.Numerals.{add-one}
 use native.Mathlib.Omega.{arith}
-use lib.ListN.{length, take, drop, getD, set, replicate, drop-of-length-le, length-append, length-drop, length-set, take-append-drop, replicate-append-replicate}
-use lib.Seq.{drop-cons, take-suc, append-snoc, length-take-le, take-append-le, drop-append-le, take-append-add, take-at, take-all, set-at, take-suc-set, drop-set-lt, set-split, set-append-left}
+use lib.ListN.{length, take, drop, getD, set, replicate, drop-of-length-le, length-append, length-drop, length-set, take-append-drop, replicate-append-replicate, length-replicate}
+use lib.Seq.{drop-cons, take-suc, append-snoc, length-take-le, take-append-le, drop-append-le, drop-append-add, take-append-add, take-at, take-all, set-at, take-suc-set, drop-set-lt, set-split, set-append-left}
 use Rattle.lists.specs.Lists.{all, insert, pad}
 use Rattle.lists.proofs.Bools.{and-left, and-right}
 
@@ -58,6 +58,48 @@ put-pad {A} N z x l k h kn =
     ∙ ap (λ (m : ℕ). take m (ins ++ R)) nn
     ∙ take-append-add ins R (N - length ins)
     ∙ ap (λ (t : List A). ins ++ t) (take-replicate z (N - length ins) (N - length l) (omega arith))
+
+pub length-insert : {A : Type 0} (r : A → A → Bool) (x : A) (l : List A) → length (insert r x l) ≡ length l + 1
+length-insert r x [] = refl
+length-insert {A} r x (y ∷ l) = go (r x y) (length-insert r x l)
+  where
+    go : (t : Bool) → length (insert r x l) ≡ length l + 1 → length (cond t (x ∷ y ∷ l) (y ∷ insert r x l)) ≡ length (y ∷ l) + 1
+    go true e = sym (add-one (length (y ∷ l)))
+    go false e = omega arith
+
+-- ---- the places of a padded list: the list itself, then blanks
+
+pub take-pad : {A : Type 0} (N : ℕ) (z : A) (l : List A) → take (length l) (pad N z l) ≡ l
+take-pad N z l = take-at l (replicate (N - length l) z) (length l) refl
+
+pub drop-pad : {A : Type 0} (p : A → Bool) (z : A) (N : ℕ) (l : List A) (k : ℕ) → p z ≡ true → length l ≤ k → all p (drop k (pad N z l)) ≡ true
+drop-pad {A} p z N l k e h =
+    let more : k ≡ length l + (k - length l) = omega arith in
+    ap (λ (i : ℕ). all p (drop i (pad N z l))) more
+    ∙ ap (all p) (drop-append-add l (replicate (N - length l) z) (k - length l))
+    ∙ none (N - length l) (k - length l)
+  where
+    none : (i j : ℕ) → all p (drop j (replicate i z)) ≡ true
+    none zero zero = refl
+    none zero (suc j) = refl
+    none (suc i) zero = rw (e, none i zero)
+    none (suc i) (suc j) = none i j
+
+pub getD-pad : {A : Type 0} (N : ℕ) (z : A) (l : List A) (i : ℕ) → getD (pad N z l) i z ≡ getD l i z
+getD-pad {A} N z l i = go (N - length l) l i
+  where
+    blank : (k i : ℕ) → getD (replicate k z) i z ≡ z
+    blank zero i = refl
+    blank (suc k) zero = refl
+    blank (suc k) (suc i) = blank k i
+
+    go : (k : ℕ) (l : List A) (i : ℕ) → getD (l ++ replicate k z) i z ≡ getD l i z
+    go k [] i = blank k i
+    go k (x ∷ l) zero = refl
+    go k (x ∷ l) (suc i) = go k l i
+
+pub length-pad : {A : Type 0} (N : ℕ) (z : A) (l : List A) → length l ≤ N → length (pad N z l) ≡ N
+length-pad N z l h = length-append l (replicate (N - length l) z) ∙ ap (λ (k : ℕ). length l + k) (length-replicate (N - length l) z) ∙ (let whole : length l + (N - length l) ≡ N = omega arith in whole)
 
 -- ---- the loop that looks for the place of x: what it passed, and x put into what is left
 

@@ -170,3 +170,9 @@ le-least (suc n) f zero h g = zero-le
 le-least (suc n) f (suc k) h g =
     subst (λ (t : Bool). suc k ≤ cond t 0 (suc (least n (λ j. f (suc j))))) (sym (g 0 (suc-le-suc zero-le)))
     (suc-le-suc (le-least n (λ j. f (suc j)) k (le-of-suc-le-suc h) (λ j l. g (suc j) (suc-le-suc l))))
+
+-- tests that agree below n find the same
+pub some-same : (n : ℕ) (f g : ℕ → Bool) → ((i : ℕ) → i < n → f i ≡ g i) → some n f ≡ some n g
+unfolding some
+some-same zero f g e = refl
+some-same (suc n) f g e = ap₂ (λ (x y : Bool). x || y) (e n (le-refl (suc n))) (some-same n f g (λ i h. e i (le-trans h (le-suc n))))

@@ -2,6 +2,7 @@
 use mathlib.Core.Bool.{Bool, true, false, cond, _&&_, _||_}
 use mathlib.Core.List.{List, [], _∷_}
 use Prim.Native.Nat.{ℕ}
+use lib.Dec.{eqb}
 
 -- every test of the list passes
 unfoldable pub allOf : List Bool → Bool
@@ -17,3 +18,7 @@ anyOf (t ∷ ts) = t || anyOf ts
 abbrev pub firstOf : List (ℕ × Bool) → ℕ
 firstOf [] = 0
 firstOf (c ∷ cs) = cond (c .1) (c .0) (firstOf cs)
+
+-- one check more of an order of checks: what was found so far, or where that is 0 the number of a test that passes
+unfoldable pub orIf : ℕ → ℕ → Bool → ℕ
+orIf found number test = cond (eqb found 0) (cond test number 0) found

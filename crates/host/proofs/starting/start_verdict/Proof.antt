@@ -1,0 +1,24 @@
+-- A state that is not sound is refused first. Assumes nothing.
+use borrow.Author.Needs.{needs}
+use mathlib.Core.Path.{_≡_, refl, sym, ap, _∙_}
+use mathlib.Core.Bool.{not}
+use borrow.Author.Tests.{not-false}
+use Rattle.host.specs.Calls.{startTests}
+use Rattle.host.proofs.starting.start_verdict.Statement.{statement}
+use Rattle.host.proofs.starting.start_verdict.Tie as tie
+
+is-sound-requires : tie.Need-is-sound-requires
+is-sound-requires c κs = search needs
+
+returns : tie.Need-returns
+unfolding startTests
+returns c = rw (ap not (sym (c .before .is-sound .ensures)) ∙ c .if1 .taken)
+
+start-checks-requires : tie.Need-start-checks-requires
+start-checks-requires c κs = sym (c .before .is-sound .ensures) ∙ not-false _ (c .if1 .left)
+
+returns-2 : tie.Need-returns-2
+returns-2 c = c .start-checks .ensures
+
+pub start-verdict-spec : {M : Type 1} → statement M
+start-verdict-spec = tie.close (tie.spec is-sound-requires returns start-checks-requires returns-2)

@@ -1,0 +1,37 @@
+-- Where there is none, the place before the first is the first. Assumes nothing.
+use borrow.Author.Needs.{needs}
+use mathlib.Core.Path.{_≡_, refl, sym, ap, _∙_}
+use Prim.Native.Nat.{ℕ, _+_, _-_, _≤_, _<_}
+use lib.ListN.{getD}
+use Rattle.host.specs.State.{noReading, noLink, noHeld, sameName, before, earlier, fits, ownStarted, notAbove, isNoLink, isNoReading, isNoHeld}
+use Rattle.host.proofs.starts.newest.Statement.{statement}
+use Rattle.host.proofs.starts.newest.Tie as tie
+
+array-copy-out-result : tie.Need-array-copy-out-result
+array-copy-out-result c = search needs
+
+returns : tie.Need-returns
+returns c = ap (λ (k : ℕ). getD (c .before .before .args .t1) (k - 1) noReading) (sym (c .before .if1 .taken))
+
+sub-result : tie.Need-sub-result
+sub-result c = search needs
+
+mul-result : tie.Need-mul-result
+mul-result c = search needs
+
+array-copy-out-result-2 : tie.Need-array-copy-out-result-2
+array-copy-out-result-2 c = search needs
+
+returns-2 : tie.Need-returns-2
+returns-2 c = search needs
+
+pub newest-spec : {M : Type 1} → statement M
+newest-spec =
+    tie.close
+    (tie.spec
+    array-copy-out-result
+    returns
+    sub-result
+    mul-result
+    array-copy-out-result-2
+    returns-2)

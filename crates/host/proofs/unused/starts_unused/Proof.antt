@@ -1,0 +1,62 @@
+-- What is left to test is the rest of the places; each turn tests the first. Assumes nothing.
+use borrow.Author.Needs.{needs}
+use mathlib.Core.Path.{_≡_, refl, sym, ap, _∙_}
+use Prim.Native.Nat.{ℕ, _+_, _-_, _≤_, _<_}
+use lib.ListN.{length, take, drop, getD}
+use mathlib.Core.Bool.{_&&_, _||_, not, true, cond}
+use Rattle.lists.specs.Lists.{all, any, rising, risingFrom, insert, pad}
+use Rattle.lists.proofs.Loops.{left-next, left-none, first-next, first-none, all-turn, all-end, any-turn, any-end, rising-turn, rising-end, rising-start}
+use Rattle.host.specs.State.{noReading, noLink, noHeld, sameName, before, earlier, fits, ownStarted, notAbove, isNoLink, isNoReading, isNoHeld}
+use Rattle.host.proofs.unused.starts_unused.Statement.{statement}
+use Rattle.host.proofs.unused.starts_unused.Tie as tie
+
+abbrev Inv-loop : tie.InvT-loop
+Inv-loop used starts ok₀ i₀ ok i = (ok && all isNoReading (drop i starts)) ≡ all isNoReading (drop used starts)
+
+abbrev μ-loop : tie.MeasureT-loop
+μ-loop used starts ok₀ i₀ ok i = 4 - i
+
+loop-holds : tie.Need-loop-holds Inv-loop μ-loop
+loop-holds c = refl
+
+mul-is-no-reading : tie.Need-mul-is-no-reading Inv-loop μ-loop
+mul-is-no-reading c = search needs
+
+array-copy-out-is-no-reading : tie.Need-array-copy-out-is-no-reading Inv-loop μ-loop
+array-copy-out-is-no-reading c = search needs
+
+is-no-reading-requires : tie.Need-is-no-reading-requires Inv-loop μ-loop
+is-no-reading-requires c κs = search needs
+
+add-i : tie.Need-add-i Inv-loop μ-loop
+add-i c = search needs
+
+loop-less : tie.Need-loop-less Inv-loop μ-loop
+loop-less c = search needs
+
+loop-again : tie.Need-loop-again Inv-loop μ-loop
+loop-again c =
+    let a = c .before .before .before .before .args in
+    let s = c .before .before .before .loop in
+    all-turn isNoReading (s .ok) (c .is-no-reading .result) (left-next (a .t1) noReading (s .i) (search needs)) (s .inv) (c .is-no-reading .ensures)
+
+returns : tie.Need-returns Inv-loop μ-loop
+returns c =
+    let a = c .before .before .args in
+    let s = c .before .loop in
+    all-end isNoReading (s .ok) (left-none (a .t1) (s .i) (search needs)) (s .inv)
+
+pub starts-unused-spec : {M : Type 1} → statement M
+starts-unused-spec =
+    tie.close
+    (tie.spec
+    Inv-loop
+    μ-loop
+    loop-holds
+    mul-is-no-reading
+    array-copy-out-is-no-reading
+    is-no-reading-requires
+    add-i
+    loop-less
+    loop-again
+    returns)

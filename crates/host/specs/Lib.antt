@@ -1,0 +1,4 @@
+pub mod State
+pub mod Entries
+pub mod Calls
+pub mod Inside

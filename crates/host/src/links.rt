@@ -1,0 +1,45 @@
+// A host's own links, as a set.
+use network::Link;
+use network::Plan;
+ghost use mathlib.Core.Path.{_≡_};
+ghost use mathlib.Core.Bool.{cond};
+ghost use Prim.Native.Nat.{_≤_, _<_};
+ghost use Rattle.network.specs.Network.{m};
+ghost use Rattle.host.specs.Calls.{setOf, ends, endsBut};
+
+// All links of the host but one; all, where no link has that number.
+pub(crate) fn links_but(plan: Plan, own: u8, arrival: u8) -> u16
+    requires { ⌜ m plan ≤ 12 ⌝ }
+    ensures { λ r. ⌜ r ≡ setOf (m plan) (endsBut plan own arrival) ⌝ }
+{
+    let mut set: u16 = 0;
+    let mut i = plan.link_count;
+    while 0 < i {
+        i -= 1;
+        set = bit(is_end_but(plan, own, arrival, i)) + 2 * set;
+    }
+    set
+}
+
+fn bit(test: bool) -> u16
+    ensures { λ r. ⌜ r ≡ cond test 1 0 ⌝ }
+{
+    if test { 1 } else { 0 }
+}
+
+fn is_end_but(plan: Plan, own: u8, arrival: u8, i: u8) -> bool
+    requires { ⌜ i < 12 ⌝ }
+    ensures { λ r. ⌜ r ≡ endsBut plan own arrival i ⌝ }
+{
+    is_end(plan, own, i) & (i != arrival)
+}
+
+// Whether link i ends at the host.
+pub(crate) fn is_end(plan: Plan, own: u8, i: u8) -> bool
+    requires { ⌜ i < 12 ⌝ }
+    ensures { λ r. ⌜ r ≡ ends plan own i ⌝ }
+{
+    let at = i as usize;
+    let l = plan.links[at];
+    (l.a == own) | (l.b == own)
+}

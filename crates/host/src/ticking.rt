@@ -1,0 +1,125 @@
+// Deliver what is due at a reading.
+use crate::Held;
+use crate::Host;
+use crate::Refusal;
+use crate::TickAnswer;
+use crate::Ticked;
+use crate::Verdict;
+use crate::checks::or_if;
+use crate::entries::put_entry;
+use crate::sound::is_sound;
+use crate::states::at_reading;
+use crate::unused::no_held;
+use clock::Reading;
+use clock::is_reading;
+use clock::reached;
+ghost use mathlib.Core.Path.{_≡_};
+ghost use mathlib.Core.Bool.{true, not};
+ghost use mathlib.Core.List.{_++_};
+ghost use Prim.Native.Nat.{_*_, _≤_};
+ghost use lib.ListN.{length, take, drop};
+ghost use Rattle.lists.specs.Lists.{keep, pad};
+ghost use Rattle.host.specs.declared.Held.{Held};
+ghost use Rattle.host.specs.State.{noHeld, sound};
+ghost use Rattle.host.specs.Entries.{entriesOf};
+ghost use Rattle.host.specs.Calls.{refusalOf, saysTick, due, tickRefusal, tickSays, tickHost, tickList};
+
+// Every order that is due leaves the history for the lent list; or the state comes back as it was, and the list keeps its bytes.
+pub fn tick(host: Host, u: Reading, out: &mut [u8]) -> Ticked
+    ensures { λ r. ⌜ (r .host ≡ tickHost host u (length (now (out .entry)))) × ((saysTick (r .answer) ≡ tickSays host (u .0) (length (now (out .entry)))) × (now (out .exit) ≡ tickList host (u .0) (now (out .entry)))) ⌝ }
+{
+    let found = tick_verdict(host, u, out.len());
+    match found {
+        Verdict::Refused(refusal) => Ticked {
+            host,
+            answer: TickAnswer::Refused(refusal),
+        },
+        Verdict::Clear => tick_accepted(host, u, out),
+    }
+}
+
+fn tick_verdict(host: Host, u: Reading, room: usize) -> Verdict
+    ensures { λ r. ⌜ refusalOf r ≡ tickRefusal host (u .0) room ⌝ }
+{
+    if !is_sound(host) {
+        return Verdict::Refused(Refusal::Unsound);
+    }
+    tick_checks(host, u, room)
+}
+
+fn tick_checks(host: Host, u: Reading, room: usize) -> Verdict
+    requires { ⌜ sound host ≡ true ⌝ }
+    ensures { λ r. ⌜ refusalOf r ≡ tickRefusal host (u .0) room ⌝ }
+{
+    let history = host.history;
+    let n = count_due(history, host.held, host.bound, u);
+    let mut found = or_if(Verdict::Clear, !is_reading(u), Refusal::BadReading);
+    found = or_if(found, u.0 < host.last.0, Refusal::Behind);
+    or_if(found, room < 16 * n, Refusal::ShortBuffer)
+}
+
+fn tick_accepted(host: Host, u: Reading, out: &mut [u8]) -> Ticked
+    requires { ⌜ tickRefusal host (u .0) (length (now out)) ≡ 0 ⌝ }
+    ensures { λ r. ⌜ (r .host ≡ tickHost host u (length (now (out .entry)))) × ((saysTick (r .answer) ≡ tickSays host (u .0) (length (now (out .entry)))) × (now (out .exit) ≡ tickList host (u .0) (now (out .entry)))) ⌝ }
+{
+    let starts = host.starts;
+    let history = host.history;
+    let held = host.held;
+    let left = deliver(out, history, held, host.bound, u);
+    let rest = left.history;
+    Ticked {
+        host: at_reading(host, u, starts, host.started, rest, left.held),
+        answer: TickAnswer::Delivered(left.delivered),
+    }
+}
+
+// What a delivery leaves of the history, and how many it delivered.
+pub(crate) struct Rest {
+    pub delivered: usize,
+    pub held: usize,
+    pub history: [Held; 32],
+}
+
+// How many of those held are due.
+fn count_due(history: [Held; 32], held: usize, bound: u64, u: Reading) -> usize
+    requires { ⌜ held ≤ 32 ⌝ }
+    ensures { λ r. ⌜ (r ≡ length (keep (due bound (u .0)) (take held history))) × (r ≤ held) ⌝ }
+{
+    let mut n: usize = 0;
+    let mut i = 0;
+    while i < held {
+        let e = history[i];
+        i += 1;
+        if reached(e.stamp, bound, u) {
+            n += 1;
+        }
+    }
+    n
+}
+
+// Writes the entries of those that are due from the front of the lent list, and keeps the others.
+fn deliver(out: &mut [u8], history: [Held; 32], held: usize, bound: u64, u: Reading) -> Rest
+    requires { ⌜ (held ≤ 32) × (16 * length (keep (due bound (u .0)) (take held history)) ≤ length (now out)) ⌝ }
+    ensures { λ r. ⌜ (r .delivered ≡ length (keep (due bound (u .0)) (take held history))) × ((r .held ≡ length (keep (λ (e : Held). not (due bound (u .0) e)) (take held history))) × ((r .history ≡ pad 32 noHeld (keep (λ (e : Held). not (due bound (u .0) e)) (take held history))) × (now (out .exit) ≡ entriesOf (keep (due bound (u .0)) (take held history)) ++ drop (16 * length (keep (due bound (u .0)) (take held history))) (now (out .entry))))) ⌝ }
+{
+    let mut rest = [no_held(); 32];
+    let mut waiting: usize = 0;
+    let mut delivered: usize = 0;
+    let mut i = 0;
+    while i < held {
+        let e = history[i];
+        i += 1;
+        if reached(e.stamp, bound, u) {
+            put_entry(out, 16 * delivered, e);
+            delivered += 1;
+        } else {
+            rest[waiting] = e;
+            waiting += 1;
+        }
+    }
+    Rest {
+        delivered,
+        held: waiting,
+        history: rest,
+    }
+}
