@@ -9,3 +9,8 @@ pub mod Sequences
 pub mod Agreement
 pub mod Theorem
 pub mod Plans
+mod Answered
+pub mod Ours
+pub mod OurStarts
+pub mod OurCopies
+pub mod Demand3

@@ -149,34 +149,31 @@ tick-keeps h u room k =
 pub starts-most : (l : List Reading) (u : Reading) → length (withStart l u) ≤ 4
 starts-most l u = let long = with-length l u (length l) refl in omega arith
 
-module _ (h : Host) (z : Sized h) (u : Reading) (o : Order) (k : StartIs h (u .0) o) where
-  s : SoundIs h
-  s = k .sound
-
+-- a reading that is neither below the last reading nor the last start is above every start
+module _ (h : Host) (z : Sized h) (s : SoundIs h) (u : Reading) (later : h .last .0 ≤ u .0) (not-again : (ltb 0 (h .started) && eqb (u .0) (lastStart h)) ≡ false) where
   l : List Reading
   l = startsOf h
 
   l-length : length l ≡ h .started
   unfolding l
-  l-length = let four = z .starts in let most = k .sound .started in length-take-le (h .started) (h .starts) (omega arith)
+  l-length = let four = z .starts in let most = s .started in length-take-le (h .started) (h .starts) (omega arith)
 
   -- the last start is below the reading
   pub newest-below : 0 < h .started → lastStart h < u .0
   unfolding l
   newest-below low =
       let four = z .starts in
-      let most = k .sound .started in
-      let later = k .later in
+      let most = s .started in
       let in-list : getD l (h .started - 1) noReading ≡ getD (h .starts) (h .started - 1) noReading = getD-take (h .started) (h .starts) (h .started - 1) noReading (omega arith) in
-      let passed : getD l (h .started - 1) noReading .0 ≤ h .last .0 = leb-true _ _ (all-at (notAbove (h .last .0)) noReading l (h .started - 1) (omega (arith, l-length)) (k .sound .starts-passed)) in
+      let passed : getD l (h .started - 1) noReading .0 ≤ h .last .0 = leb-true _ _ (all-at (notAbove (h .last .0)) noReading l (h .started - 1) (omega (arith, l-length)) (s .starts-passed)) in
       let at-most : lastStart h ≤ h .last .0 = subst (λ (r : Reading). r .0 ≤ h .last .0) in-list passed in
-      let differ : u .0 ≡ lastStart h → ⊥ = eqb-false _ _ (rw (lt-ltb 0 (h .started) low) at (k .not-again)) in
+      let differ : u .0 ≡ lastStart h → ⊥ = eqb-false _ _ (rw (lt-ltb 0 (h .started) low) at not-again) in
       omega arith
 
   -- and so is each start
   pub starts-below : all (λ (r : Reading). earlier r u) (startsOf h) ≡ true
   unfolding l
-  starts-below = member-all (λ (r : Reading). earlier r u) l (λ x i. lt-ltb _ _ (go x i (before-last earlier earlier-trans noReading l (k .sound .starts-rise) x i)))
+  starts-below = member-all (λ (r : Reading). earlier r u) l (λ x i. lt-ltb _ _ (go x i (before-last earlier earlier-trans noReading l (s .starts-rise) x i)))
     where
       four : length (h .starts) ≡ 4
       four = z .starts
@@ -197,6 +194,10 @@ module _ (h : Host) (z : Sized h) (u : Reading) (o : Order) (k : StartIs h (u .0
           let below = newest-below (low x i) in
           omega arith
 
+module _ (h : Host) (z : Sized h) (u : Reading) (o : Order) (k : StartIs h (u .0) o) where
+  s : SoundIs h
+  s = k .sound
+
   -- nothing is held under the new name
   pub new-start : any (sameName (startOf h u o)) (heldOf h) ≡ false
   new-start = member-none (sameName (startOf h u o)) (heldOf h) (λ y i. false-unless (sameName (startOf h u o) y) (λ e. go y e (own-is (h .own) (h .started) (lastStart h) y (all-member (ownStarted (h .own) (h .started) (lastStart h)) (heldOf h) (k .sound .own-started) y i))))
@@ -204,14 +205,13 @@ module _ (h : Host) (z : Sized h) (u : Reading) (o : Order) (k : StartIs h (u .0
       go : (y : Held) → sameName (startOf h u o) y ≡ true → (eqb (y .source) (h .own) ≡ false) ⊎ ((0 < h .started) × (y .stamp .0 ≤ lastStart h)) → ⊥
       go y e (inl q) = eqb-false _ _ q (sym (name-is (startOf h u o) y e .1))
       go y e (inr q) =
-          let below = newest-below (q .0) in
+          let below = newest-below h z (k .sound) u (k .later) (k .not-again) (q .0) in
           let same : u .0 ≡ y .stamp .0 = name-is (startOf h u o) y e .0 in
           let most : y .stamp .0 ≤ lastStart h = q .1 in
           omega arith
 
   ws : List Reading
   ws = withStart (startsOf h) u
-
 
   -- the last of the new starts is the reading
   pub newest-is : getD (pad 4 noReading (withStart (startsOf h) u)) (length (withStart (startsOf h) u) - 1) noReading ≡ u
@@ -228,7 +228,7 @@ module _ (h : Host) (z : Sized h) (u : Reading) (o : Order) (k : StartIs h (u .0
       let x = startOf h u o in
       let same : withStart (startsOf h) u ≡ take (length ws) (pad 4 noReading ws) = sym (take-pad 4 noReading ws) in
       let old : List Reading = drop (length (startsOf h) - 3) (startsOf h) in
-      let below : all (λ (r : Reading). earlier r u) old ≡ true = all-drop (λ (r : Reading). earlier r u) (length (startsOf h) - 3) (startsOf h) starts-below in
+      let below : all (λ (r : Reading). earlier r u) old ≡ true = all-drop (λ (r : Reading). earlier r u) (length (startsOf h) - 3) (startsOf h) (starts-below h z (k .sound) u (k .later) (k .not-again)) in
       let passed : all (notAbove (u .0)) ws ≡ true =
       all-append (notAbove (u .0)) old (u ∷ [])
       (member-all (notAbove (u .0)) old (λ y i. le-leb (y .0) (u .0) (le-of-lt (ltb-true (y .0) (u .0) (all-member (λ (r : Reading). earlier r u) old below y i)))))
@@ -252,4 +252,4 @@ module _ (h : Host) (z : Sized h) (u : Reading) (o : Order) (k : StartIs h (u .0
         where
           old : (eqb (y .source) (h .own) ≡ false) ⊎ ((0 < h .started) × (y .stamp .0 ≤ lastStart h)) → ownStarted (h .own) (length ws) (u .0) y ≡ true
           old (inl q) = other-started (h .own) (length ws) (u .0) y q
-          old (inr q) = let below = newest-below (q .0) in let most : y .stamp .0 ≤ lastStart h = q .1 in stamp-started (h .own) (length ws) (u .0) y some (omega arith)
+          old (inr q) = let below = newest-below h z (k .sound) u (k .later) (k .not-again) (q .0) in let most : y .stamp .0 ≤ lastStart h = q .1 in stamp-started (h .own) (length ws) (u .0) y some (omega arith)

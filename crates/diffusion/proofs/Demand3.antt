@@ -1,0 +1,13 @@
+-- Demand 3, of the hosts of demand 2 and of planning's own bound. Assumes nothing.
+use mathlib.Core.Path.{_≡_}
+use Rattle.network.specs.Network.{planRefusal}
+use Rattle.network.specs.declared.Plan.{Plan}
+use Rattle.diffusion.specs.Run.{Story, Premises, Claims}
+use Rattle.diffusion.specs.Ours.{ours}
+use Rattle.diffusion.proofs.Theorem.{theorem}
+use Rattle.diffusion.proofs.Plans.{sturdy, timed}
+use Rattle.diffusion.proofs.OurStarts.{laws}
+use Rattle.diffusion.proofs.OurCopies.{first-rules}
+
+pub demand-3 : (P : Plan) (R : Story) → planRefusal P ≡ 0 → Premises P (ours P) R → Claims P (ours P) R
+demand-3 P R e G = theorem P (ours P) R (sturdy P e) (laws P e) (first-rules P e) (timed P (sturdy P e) (ours P) R G)
