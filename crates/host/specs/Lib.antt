@@ -1,4 +1,5 @@
 pub mod State
 pub mod Entries
 pub mod Calls
+pub mod Published
 pub mod Inside
