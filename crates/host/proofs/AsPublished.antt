@@ -221,7 +221,7 @@ as-deliveries h u room own =
       delivered = λ y. (λ i. let r = due-in h (u .0) y i in (y .stamp .0, r .1, (r .0, refl)), λ k. in-due h (u .0) y (k .2 .0) (subst (λ (T : ℕ). T + h .bound ≤ u .0) (sym (k .2 .1)) (k .1)));
       history = λ y. (
         λ i. let r = waiting-in h (u .0) y (subst (In y) e i) in (r .0, λ T l q. let less : u .0 < y .stamp .0 + h .bound = r .1 in let same : y .stamp .0 ≡ T = q in omega arith),
-        λ k. subst (In y) (sym e) (in-waiting h (u .0) y (k .0) (lt-of-not-le (λ l. k .1 (y .stamp .0) l refl)))
+        λ k. subst (In y) (sym e) (in-waiting h (u .0) y (k .0) (lt-of-not-le (λ l. k .1 (y .stamp .0) l refl))),
       );
     }
 
@@ -232,11 +232,11 @@ as-delivery h u room own none =
     record {
       delivered = λ y. (
         λ i. let r = k .delivered y .0 i in (r .0, exact y (r .0) (r .1) (r .2 .0) (r .2 .1), r .2),
-        λ r. k .delivered y .1 (r .0, (let same : r .0 + h .bound ≡ u .0 = r .1 in omega arith), r .2)
+        λ r. k .delivered y .1 (r .0, (let same : r .0 + h .bound ≡ u .0 = r .1 in omega arith), r .2),
       );
       history = λ y. (
         λ i. let r = k .history y .0 i in (r .0, λ T e q. r .1 T (omega arith) q),
-        λ r. k .history y .1 (r .0, λ T l q. r .1 T (exact y T l (r .0) q) q)
+        λ r. k .history y .1 (r .0, λ T l q. r .1 T (exact y T l (r .0) q) q),
       );
     }
   where

@@ -212,7 +212,6 @@ module _ (h : Host) (z : Sized h) (u : Reading) (o : Order) (k : StartIs h (u .0
   ws : List Reading
   ws = withStart (startsOf h) u
 
-
   -- the last of the new starts is the reading
   pub newest-is : getD (pad 4 noReading (withStart (startsOf h) u)) (length (withStart (startsOf h) u) - 1) noReading ≡ u
   newest-is =

@@ -2,4 +2,5 @@ pub mod State
 pub mod Entries
 pub mod Calls
 pub mod Published
+pub mod Cases
 pub mod Inside
