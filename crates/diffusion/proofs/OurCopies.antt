@@ -73,8 +73,7 @@ module _ (P : Plan) (p U : ℕ) (h : Host) (k : Ok P p U h) where
         let i = takes-is U h (receive j c) y t in
         let f = receive-is h U j (c .hop) (heldAs (c .what)) (i .0) in
         let new = new-name (heldAs (c .what)) (heldOf h) (f .not-known) (f .not-other) in
-        let other : c .what .source ≡ h .own → ⊥ = eqb-false _ _ (other-source h (heldAs (c .what)) new (f .not-own)) in
-        (
+        let other : c .what .source ≡ h .own → ⊥ = eqb-false _ _ (other-source h (heldAs (c .what)) new (f .not-own)) in (
           i .1,
           subst (λ (z : Carried). U < z .stamp + Δ P) (sym (i .1)) (before-due (f .before-due)),
           f .reading,
@@ -91,11 +90,10 @@ module _ (P : Plan) (p U : ℕ) (h : Host) (k : Ok P p U h) where
         ap (λ (s : ℕ). relayLinks h j s) none ∙ ap₂ (λ (q : Plan) (o : ℕ). otherLinks q o j) (k .plan) (k .own) in
         let on : has (otherLinks (cleared P) p j) i ≡ true =
         set-has (m P) (endsBut (cleared P) p j) i
-        ∙ ap₂ (λ (a b : Bool). a && b) (lt-ltb i (m P) (own .1 .0)) (ap₂ (λ (a b : Bool). a && not b) (own-ends P p i own) (ne-eqb i j differ)) in
-        (
+        ∙ ap₂ (λ (a b : Bool). a && b) (lt-ltb i (m P) (own .1 .0)) (ap₂ (λ (a b : Bool). a && not b) (own-ends P p i own) (ne-eqb i j differ)) in (
           relayHop (h .rules) (c .hop),
           subst (λ (w : Carried). Sends (called U h (receive j c)) (record { what = w; hop = relayHop (h .rules) (c .hop) }) i) (sym (z .1))
-          (is-sent (receiveRefusal h U j (c .hop) (heldAs (c .what))) _ (relayHop (h .rules) (c .hop)) _ _ i (z .0) (ap (λ (s : ℕ). has s i) same ∙ on)),
+              (is-sent (receiveRefusal h U j (c .hop) (heldAs (c .what))) _ (relayHop (h .rules) (c .hop)) _ _ i (z .0) (ap (λ (s : ℕ). has s i) same ∙ on)),
         )
 
     -- what each refusal says
@@ -125,8 +123,7 @@ module _ (P : Plan) (p U : ℕ) (h : Host) (k : Ok P p U h) where
     unfolding receiveTests
     full-receive f =
         let t = found (receiveTests h U j (c .hop) (heldAs (c .what))) 14 refl (refusal-is (receiveRefusal h U j (c .hop) (heldAs (c .what))) _ _ _ _ 14 f .0) in
-        let t5 = t .1 .1 .1 .1 .1 in
-        (
+        let t5 = t .1 .1 .1 .1 .1 in (
           full P p U h k (t5 .1 .1 .1 .1 .1 .1),
           leb-true _ _ (not-false _ (t .1 .1 .1 .0)),
           before-due (leb-false _ _ (t5 .1 .1 .0)),

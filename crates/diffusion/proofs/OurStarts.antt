@@ -121,11 +121,10 @@ module _ (P : Plan) (p U : ℕ) (h : Host) (k : Ok P p U h) where
   sends-start o x i t own =
       let z = takes-is U h (start o) x t in
       let on : has (ownLinks (cleared P) p) i ≡ true = set-has (m P) (ends (cleared P) p) i ∙ ap₂ (λ (a b : Bool). a && b) (lt-ltb i (m P) (own .1 .0)) (own-ends P p i own) in
-      let same : ownLinks (h .plan) (h .own) ≡ ownLinks (cleared P) p = ap₂ ownLinks (k .plan) (k .own) in
-      (
+      let same : ownLinks (h .plan) (h .own) ≡ ownLinks (cleared P) p = ap₂ ownLinks (k .plan) (k .own) in (
         cond (eqb (h .rules) 2) 1 0,
         subst (λ (y : Carried). Sends (called U h (start o)) (record { what = y; hop = cond (eqb (h .rules) 2) 1 0 }) i) (sym (z .1))
-        (is-sent (startRefusal h U o) _ (cond (eqb (h .rules) 2) 1 0) _ _ i (z .0) (ap (λ (s : ℕ). has s i) same ∙ on)),
+            (is-sent (startRefusal h U o) _ (cond (eqb (h .rules) 2) 1 0) _ _ i (z .0) (ap (λ (s : ℕ). has s i) same ∙ on)),
       )
 
   pub held-is-length : length (heldOf h) ≡ h .held

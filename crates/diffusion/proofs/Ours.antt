@@ -152,12 +152,11 @@ module _ (U : ℕ) (h : Host) (c : Call) where
 
 pub carried-rises : (l : List Held) → rising before l ≡ true → Rising (map carried l)
 carried-rises [] up = tt
-carried-rises (x ∷ l) up =
-    (
-      in-all (Before (carried x)) (map carried l)
+carried-rises (x ∷ l) up = (
+  in-all (Before (carried x)) (map carried l)
       (λ y i. let f = in-carried l y i in subst (Before (carried x)) (sym (f .2)) (before-is x (f .0) (all-member (before x) l (first-before before before-trans x l up) (f .0) (f .1)))),
-      carried-rises l (rising-tail before x l up),
-    )
+  carried-rises l (rising-tail before x l up),
+)
 
 -- ---- a tick
 
@@ -195,12 +194,11 @@ module _ (P : Plan) (p U room : ℕ) (h : Host) (k : Ok P p U h) where
   delivered-held x =
       after-call (λ (l : List Held). In x (map carried l) → In x (map carried (heldOf h)) × (x .stamp + Δ P ≤ U) × (U ≤ largestReading)) (tickRefusal h U room) (dueOf h U) []
       (λ z i. (let f = in-carried (dueOf h U) x i in
-          let d = due-in h U (f .0) (f .1) in
-          (
-            subst (λ (y : Carried). In y (map carried (heldOf h))) (sym (f .2)) (carried-in (heldOf h) (f .0) (d .0)),
-            subst (λ (b : ℕ). b ≤ U) (due-is x (f .0) (f .2)) (d .1),
-            tick-is h U room z .reading,
-          )))
+      let d = due-in h U (f .0) (f .1) in (
+        subst (λ (y : Carried). In y (map carried (heldOf h))) (sym (f .2)) (carried-in (heldOf h) (f .0) (d .0)),
+        subst (λ (b : ℕ). b ≤ U) (due-is x (f .0) (f .2)) (d .1),
+        tick-is h U room z .reading,
+      )))
       (λ i. absurd i)
 
   pub delivered-all : (x : Carried) → U ≤ largestReading → 16 * length (dueOf h U) ≤ room → In x (map carried (heldOf h)) → x .stamp + Δ P ≤ U

@@ -193,10 +193,31 @@ receive-is h u arrival hop x e =
 pub receive-runs : (h : Host) (u arrival hop : ℕ) (x : Held) → ReceiveIs h u arrival hop x → receiveRefusal h u arrival hop x ≡ 0
 unfolding receiveTests
 receive-runs h u arrival hop x k =
-    pass-none (receiveTests h u arrival hop x)
-    (ap not (is-sound h (k .sound)), (simp (lt-ltb _ _ (k .arrival-below), k .arrival-own, lt-ltb _ _ (k .source)), (simp (le-leb _ _ (k .stamp), k .hop-fits, k .share),
-    (ap not (le-leb _ _ (k .reading)), (le-ltb _ _ (k .later), (k .not-early, (k .not-late, (lt-leb _ _ (k .before-due),
-    (k .not-known, (k .not-other, (k .not-own, (lt-leb _ _ (k .room), tt))))))))))))
+    pass-none (receiveTests h u arrival hop x) (
+      ap not (is-sound h (k .sound)),
+      (
+        simp (lt-ltb _ _ (k .arrival-below), k .arrival-own, lt-ltb _ _ (k .source)),
+        (
+          simp (le-leb _ _ (k .stamp), k .hop-fits, k .share),
+          (
+            ap not (le-leb _ _ (k .reading)),
+            (
+              le-ltb _ _ (k .later),
+              (
+                k .not-early,
+                (
+                  k .not-late,
+                  (
+                    lt-leb _ _ (k .before-due),
+                    (k .not-known, (k .not-other, (k .not-own, (lt-leb _ _ (k .room), tt)))),
+                  ),
+                ),
+              ),
+            ),
+          ),
+        ),
+      ),
+    )
 
 -- a tick that is not refused
 pub record TickIs (h : Host) (u room : ℕ) : Type 0 where

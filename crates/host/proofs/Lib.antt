@@ -5,7 +5,10 @@ pub mod Blanks
 mod Slides
 pub mod Facts
 pub mod Writes
-mod Fresh
+pub mod Fresh
 pub mod Names
 pub mod Keeps
 pub mod Outcomes
+pub mod Refusals
+pub mod AsPublished
+pub mod One

@@ -7,8 +7,12 @@ use native.Mathlib.Omega.{arith}
 use borrow.Author.Tests.{ltb-true, ltb-false, eqb-true, eqb-false, lt-ltb, eq-eqb}
 use lib.Dec.{ltb, eqb}
 use Rattle.lists.proofs.Bools.{false-unless, and-left, and-right, or-left, or-right, or-cases, or-true-left, or-true-right}
+use Rattle.orders.specs.Orders.{sameOrder}
+use Rattle.orders.specs.declared.Order.{Order}
+use Rattle.orders.proofs.Laws.{same-equal, equal-same}
 use Rattle.host.specs.declared.Held.{Held}
 use Rattle.host.specs.State.{sameName, before}
+use Rattle.host.specs.Calls.{sameHeld}
 
 -- ---- what the tests say
 
@@ -87,3 +91,18 @@ before-total x z other notFirst = is-before z x (go (ltb (z .stamp .0) (x .stamp
         let two : z .source ≤ x .source = ltb-false _ _ not-below in
         let same : x .source ≡ z .source = omega arith in
         absurd (eqb-false _ _ differ same)
+
+-- ---- one name and one order are one held order
+
+abbrev held : ℕ → ℕ → Order → Held
+held t s o = record { stamp = record { 0 = t }; source = s; order = o }
+
+pub same-held : (x y : Held) → sameHeld x y ≡ true → x ≡ y
+same-held x y e =
+    let n = name-is x y (and-left (sameName x y) (sameOrder (x .order) (y .order)) e) in
+    ap (λ (t : ℕ). held t (x .source) (x .order)) (n .0)
+    ∙ ap (λ (s : ℕ). held (y .stamp .0) s (x .order)) (n .1)
+    ∙ ap (λ (o : Order). held (y .stamp .0) (y .source) o) (same-equal (x .order) (y .order) (and-right (sameName x y) (sameOrder (x .order) (y .order)) e))
+
+pub held-same : (x : Held) → sameHeld x x ≡ true
+held-same x = simp (is-name x x refl refl, equal-same (x .order) (x .order) refl)

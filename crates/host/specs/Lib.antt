@@ -1,4 +1,6 @@
 pub mod State
 pub mod Entries
 pub mod Calls
+pub mod Published
+pub mod Cases
 pub mod Inside

@@ -12,6 +12,7 @@ mod states;
 mod ticking;
 mod unused;
 
+pub use checks::number_of;
 use clock::Reading;
 pub use making::make;
 use network::Plan;

@@ -26,11 +26,13 @@ returns c =
     let k = c .before .place .result in
     let l : List Held = take (a .held) (a .history) in
     let n : length l ≡ a .held = length-take-le (a .held) (a .history) (omega arith) in
-    let whole = padded isNoHeld noHeld only-held 32 (a .history) (a .held) (omega arith) (omega arith) (c .before .before .pre .1) in
-    (c .put-in .ensures
-    ∙ ap (λ (t : List Held). take 32 (take k t ++ (a .x ∷ drop k t))) whole
-    ∙ put-pad 32 noHeld (a .x) l k (omega arith) (omega arith)
-    ∙ ap (λ (t : List Held). pad 32 noHeld t) (sym (c .before .place .ensures .1)), length-insert before (a .x) l ∙ ap (λ (m : ℕ). m + 1) n)
+    let whole = padded isNoHeld noHeld only-held 32 (a .history) (a .held) (omega arith) (omega arith) (c .before .before .pre .1) in (
+      c .put-in .ensures
+          ∙ ap (λ (t : List Held). take 32 (take k t ++ (a .x ∷ drop k t))) whole
+          ∙ put-pad 32 noHeld (a .x) l k (omega arith) (omega arith)
+          ∙ ap (λ (t : List Held). pad 32 noHeld t) (sym (c .before .place .ensures .1)),
+      length-insert before (a .x) l ∙ ap (λ (m : ℕ). m + 1) n,
+    )
 
 pub with-held-spec : {M : Type 1} → statement M
 with-held-spec = tie.close (tie.spec place-requires put-in-requires returns)

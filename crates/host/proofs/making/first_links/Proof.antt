@@ -47,11 +47,13 @@ loop-again c =
     let s = c .before .before .loop in
     let l : List Link = take (s .i) (a .t1) in
     let x : Link = getD (a .t1) (s .i) noLink in
-    let n : length l ≡ s .i = length-take-le (s .i) (a .t1) (omega arith) in
-    (search needs, ap (λ (t : List Link). set t (s .i) x) (s .inv .1)
-    ∙ ap (λ (k : ℕ). set (pad 12 noLink l) k x) (sym n)
-    ∙ pad-more 12 noLink x l (omega arith)
-    ∙ ap (λ (t : List Link). pad 12 noLink t) (sym (take-suc (a .t1) (s .i) noLink (omega arith)) ∙ ap (λ (k : ℕ). take k (a .t1)) (sym (add-one (s .i)))))
+    let n : length l ≡ s .i = length-take-le (s .i) (a .t1) (omega arith) in (
+      search needs,
+      ap (λ (t : List Link). set t (s .i) x) (s .inv .1)
+          ∙ ap (λ (k : ℕ). set (pad 12 noLink l) k x) (sym n)
+          ∙ pad-more 12 noLink x l (omega arith)
+          ∙ ap (λ (t : List Link). pad 12 noLink t) (sym (take-suc (a .t1) (s .i) noLink (omega arith)) ∙ ap (λ (k : ℕ). take k (a .t1)) (sym (add-one (s .i)))),
+    )
 
 returns : tie.Need-returns Inv-loop μ-loop
 returns c =

@@ -35,9 +35,10 @@ relay-hop-requires c κs =
     hop-most (a .host .rules) (a .hop) (k .hop-fits)
 
 returns : tie.Need-returns
-returns c =
-    (rw (c .before .before .at-reading .ensures, c .before .before .before .before .before .before .before .pre, c .before .before .before .with-held .ensures .0, c .before .before .before .with-held .ensures .1),
-    rw (c .before .before .before .before .before .before .before .pre, c .before .relay-links .ensures, c .relay-hop .ensures))
+returns c = (
+  rw (c .before .before .at-reading .ensures, c .before .before .before .before .before .before .before .pre, c .before .before .before .with-held .ensures .0, c .before .before .before .with-held .ensures .1),
+  rw (c .before .before .before .before .before .before .before .pre, c .before .relay-links .ensures, c .relay-hop .ensures),
+)
 
 pub receive-accepted-spec : {M : Type 1} → statement M
 receive-accepted-spec =

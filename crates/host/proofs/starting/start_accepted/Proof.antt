@@ -49,9 +49,10 @@ returns : tie.Need-returns
 returns c =
     let a = c .before .before .before .before .before .before .before .before .before .args in
     let k = start-is (a .host) (a .u .0) (a .order) (c .before .before .before .before .before .before .before .before .before .pre) in
-    let own = all-own (a .host .plan) (a .host .own) (ranges (a .host .plan) (k .sound .ranges) .links-high) in
-    (rw (c .before .before .at-reading .ensures, c .before .before .before .before .before .before .before .before .before .pre, c .before .before .before .before .before .with-start .ensures .0, c .before .before .before .before .before .with-start .ensures .1, c .before .before .before .before .with-held .ensures .0, c .before .before .before .before .with-held .ensures .1, c .before .before .before .one-more .ensures),
-    rw (c .before .before .before .before .before .before .before .before .before .pre, c .before .links-but .ensures, c .first-hop .ensures, own))
+    let own = all-own (a .host .plan) (a .host .own) (ranges (a .host .plan) (k .sound .ranges) .links-high) in (
+      rw (c .before .before .at-reading .ensures, c .before .before .before .before .before .before .before .before .before .pre, c .before .before .before .before .before .with-start .ensures .0, c .before .before .before .before .before .with-start .ensures .1, c .before .before .before .before .with-held .ensures .0, c .before .before .before .before .with-held .ensures .1, c .before .before .before .one-more .ensures),
+      rw (c .before .before .before .before .before .before .before .before .before .pre, c .before .links-but .ensures, c .first-hop .ensures, own),
+    )
 
 pub start-accepted-spec : {M : Type 1} → statement M
 start-accepted-spec =
