@@ -1,8 +1,8 @@
 -- It counts up to the rounds. Assumes nothing.
 use Prim.Native.Nat.{_≤_, _-_}
 use borrow.Author.Needs.{needs}
-use Rattle.plan_bench.proofs.planned.Statement.{statement}
-use Rattle.plan_bench.proofs.planned.Tie as tie
+use Rattle.bench.proofs.planning.planned.Statement.{statement}
+use Rattle.bench.proofs.planning.planned.Tie as tie
 
 abbrev Inv-loop : tie.InvT-loop
 Inv-loop rounds q₀ sum₀ i₀ q sum i = i ≤ rounds

@@ -1,18 +1,12 @@
-// Times planning on the worst plans known. Standard input says how many times each is planned; where it says nothing each is planned once,
-// and what is printed is always the same. With a number, each line also has the nanoseconds of processor time that one planning took.
+// Planning, on the worst plans known.
 ghost use Prim.Native.Nat.{_<_};
-
-mod networks;
-
-use libc::STDIN_FILENO;
+use crate::networks;
+use crate::timing;
 use libc::STDOUT_FILENO;
 use network::Plan;
 use network::Planned;
 
-fn main() {
-    let mut input = [0u8; 8];
-    libc::read(STDIN_FILENO, &mut input);
-    let rounds = number(input);
+pub(crate) fn times(rounds: u64) {
     timed(b"cube 0 0", rounds, networks::cube(0, 0));
     timed(b"cube 1 1", rounds, networks::cube(1, 1));
     timed(b"cube 2 0", rounds, networks::cube(2, 0));
@@ -27,37 +21,12 @@ fn main() {
     timed(b"octahedron 4 12", rounds, networks::octahedron(4, 12));
 }
 
-// The number that the digits say, up to the first byte that is none.
-fn number(digits: [u8; 8]) -> u64 {
-    let mut n: u64 = 0;
-    let mut i: usize = 0;
-    while i < 8 {
-        let digit = digits[i];
-        if digit < b'0' {
-            return n;
-        }
-        if digit > b'9' {
-            return n;
-        }
-        n = n % 10_000_000 * 10 + ((digit - b'0') as u64);
-        i += 1;
-    }
-    n
-}
-
 fn timed(name: &[u8], rounds: u64, p: Plan) {
     io::write_all(STDOUT_FILENO, name);
     show(network::planning::plan(p));
-    if 0 < rounds {
-        let from = processor_time();
-        let sum = planned(p, rounds);
-        let to = processor_time();
-        io::write_all(STDOUT_FILENO, b", ns ");
-        io::print_decimal(STDOUT_FILENO, nanoseconds(from, to) / rounds);
-        io::write_all(STDOUT_FILENO, b", sum ");
-        io::print_decimal(STDOUT_FILENO, sum);
-    }
-    io::write_all(STDOUT_FILENO, b"\n");
+    let from = timing::processor_time();
+    let sum = planned(p, rounds);
+    timing::end_line(rounds, from, sum);
 }
 
 // The sum of the bounds found in so many rounds, each with another delay: no round's work is that of the round before.
@@ -99,17 +68,4 @@ fn show(p: Planned) {
 fn refused(number: &[u8]) {
     io::write_all(STDOUT_FILENO, b": refused ");
     io::write_all(STDOUT_FILENO, number);
-}
-
-// The processor time that the program has used, in microseconds.
-fn processor_time() -> u64 {
-    let used = libc::clock();
-    if used > 0 { used as u64 } else { 0 }
-}
-
-fn nanoseconds(from: u64, to: u64) -> u64 {
-    if to < from {
-        return 0;
-    }
-    (to - from) % 1_000_000_000_000 * 1000
 }

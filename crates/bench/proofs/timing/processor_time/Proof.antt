@@ -10,8 +10,8 @@ use lib.Signed.{mag, ltZ, nonNeg}
 use mir.Syntax.{w64}
 use mir.Val.{Fits, toZ, ofZ}
 use mir.Facts.{toZ-ofZ}
-use Rattle.plan_bench.proofs.processor_time.Statement.{statement}
-use Rattle.plan_bench.proofs.processor_time.Tie as tie
+use Rattle.bench.proofs.timing.processor_time.Statement.{statement}
+use Rattle.bench.proofs.timing.processor_time.Tie as tie
 
 above : (z : ℤ) → mag z < 2 ^ 63 → ltZ (pos 0) z ≡ true → T (nonNeg z) × Fits w64 (natAbs z)
 above (pos n) small e = (tt, record { fits = omega arith })

@@ -1,8 +1,8 @@
 -- It counts up to the eighth digit. Assumes nothing.
 use Prim.Native.Nat.{_≤_, _-_}
 use borrow.Author.Needs.{needs}
-use Rattle.plan_bench.proofs.number.Statement.{statement}
-use Rattle.plan_bench.proofs.number.Tie as tie
+use Rattle.bench.proofs.timing.number.Statement.{statement}
+use Rattle.bench.proofs.timing.number.Tie as tie
 
 abbrev Inv-loop : tie.InvT-loop
 Inv-loop digits n₀ i₀ n i = i ≤ 8
