@@ -66,7 +66,7 @@ fn receive(host: Host, row: Row) -> Host {
 
 // The row's stamp is the length lent.
 fn tick(host: Host, row: Row) -> Host {
-    let mut out = [255u8; 600];
+    let mut out = lent();
     let room = (row.stamp % 601) as usize;
     let r = host::tick(host, Reading(row.u), &mut out[..room]);
     let answer = r.answer;
@@ -74,36 +74,53 @@ fn tick(host: Host, row: Row) -> Host {
     r.host
 }
 
+fn lent() -> [u8; 600] {
+    [255; 600]
+}
+
 // A part of the state set to the row's stamp.
 fn set(host: Host, row: Row) -> Host {
-    let mut h = host;
     let value = row.stamp;
     let small = (value % 256) as u8;
     let at = (row.source % 4) as usize;
+    let started = (value % 9) as usize;
+    let held = (value % 40) as usize;
+    let reading = Reading(value);
+    let linked = with_link(host.plan, at, pair(small, 2));
+    let behind = with_link(host.plan, 11, pair(0, small));
+    let order = held_of(row);
+    let mut h = host;
     let call = row.call;
     match call {
         4 => h.d = small,
         5 => h.bound = value,
         6 => h.own = small,
         7 => h.rules = small,
-        8 => h.last = Reading(value),
-        9 => h.started = (value % 9) as usize,
-        10 => h.held = (value % 40) as usize,
-        11 => h.starts[at] = Reading(value),
-        12 => h.history[at] = held(row),
-        13 => h.plan.links[at] = Link { a: small, b: 2 },
+        8 => h.last = reading,
+        9 => h.started = started,
+        10 => h.held = held,
+        11 => h.starts[at] = reading,
+        12 => h.history[at] = order,
+        13 => h.plan = linked,
         14 => h.plan.skew = small,
-        15 => h.plan.links[11] = Link { a: 0, b: small },
+        15 => h.plan = behind,
         _ => h = filled(host, value % 40),
     }
     h
 }
 
+fn with_link(plan: Plan, at: usize, link: Link) -> Plan {
+    let mut p = plan;
+    if at < 12 {
+        p.links[at] = link;
+    }
+    p
+}
+
 // So many halts received at 1000, with stamps from there on.
 fn filled(host: Host, count: u64) -> Host {
     let mut h = host;
-    let mut i: u64 = 0;
-    while i < count % 40 {
+    for i in 0..count % 40 {
         let copy = Held {
             stamp: Reading(1000 + i),
             source: 0,
@@ -111,12 +128,11 @@ fn filled(host: Host, count: u64) -> Host {
         };
         let r = host::receive(h, Reading(1000), 0, 1, copy);
         h = r.host;
-        i += 1;
     }
     h
 }
 
-fn held(row: Row) -> Held {
+fn held_of(row: Row) -> Held {
     Held {
         stamp: Reading(row.u),
         source: row.hop,

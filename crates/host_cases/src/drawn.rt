@@ -6,11 +6,9 @@ use crate::table::zero;
 pub(crate) fn many(seed: u64, rules: u8, count: u64) {
     let mut host = made(zero(), begin(rules));
     let mut s = seed;
-    let mut i: u64 = 0;
-    while i < count {
+    for _ in 0..count {
         host = made(host, row(s, host.last.0, rules));
         s = after(s, 12);
-        i += 1;
     }
 }
 
@@ -25,13 +23,13 @@ fn begin(rules: u8) -> Row {
 
 // A call at a reading near the last one, of an order with a stamp near it.
 fn row(seed: u64, last: u64, rules: u8) -> Row {
-    let u = last % 1000000 + draw(seed, 1, 7);
+    let u = last % 1000000 + draw(seed, 1, 7) % 7;
     Row {
         call: 1 + small(seed, 2, 3) % 3,
         u,
         arrival: small(seed, 3, 4),
         hop: hop(rules, small(seed, 4, 10)),
-        stamp: near(u + draw(seed, 5, 48)),
+        stamp: near(u + draw(seed, 5, 48) % 48),
         source: small(seed, 6, 4),
         kind: 1 + small(seed, 7, 4) % 4,
         image: (draw(seed, 8, 3) % 3) as u32,
@@ -63,10 +61,8 @@ fn draw(seed: u64, k: u64, n: u64) -> u64 {
 // The seed k steps on.
 fn after(seed: u64, k: u64) -> u64 {
     let mut s = seed;
-    let mut i: u64 = 0;
-    while i < k {
+    for _ in 0..k {
         s = (s % 65536 * 25173 + 13849) % 65536;
-        i += 1;
     }
     s
 }

@@ -46,11 +46,15 @@ pub(crate) fn ticked(answer: TickAnswer, out: &[u8; 600], host: Host) {
 
 fn bytes(out: &[u8; 600], count: usize) {
     io::write_all(STDOUT_FILENO, b":");
-    let mut i: usize = 0;
-    while (i < 600) & (i / 16 < count) {
-        number(out[i] as u64);
-        i += 1;
+    for i in 0..600usize {
+        if i / 16 < count {
+            byte(out[i]);
+        }
     }
+}
+
+fn byte(b: u8) {
+    number(b as u64);
 }
 
 fn refused(r: Refusal) {

@@ -3407,10 +3407,8 @@ const TABLE: [u64; 3384] = [
 
 pub(crate) fn rows() {
     let mut host = zero();
-    let mut i: usize = 0;
-    while i < ROWS {
+    for i in 0..ROWS {
         host = made(host, row(i));
-        i += 1;
     }
 }
 
