@@ -1,4 +1,4 @@
--- What an answer of a start or a receive says, by its refusal; and who is in a list of carried orders. Assumes nothing.
+-- What an answer of a start or a receive says, by its refusal. Assumes nothing.
 use mathlib.Core.Path.{_≡_, refl, sym, ap, _∙_, subst}
 use mathlib.Core.Logic.{_⊎_, inl, inr}
 use mathlib.Core.Bool.{Bool, true, false, cond}
@@ -49,15 +49,3 @@ module _ (r links hop : ℕ) (h : Host) (x : Carried) where
 pub after-is : (r links hop : ℕ) (g h : Host) (x : Carried) → after (answered (saidBy r links hop) (unless r g h) x) h ≡ unless r g h
 after-is r links hop g h x =
     answer-cases r links hop (unless r g h) x (λ (a : Answer Host). after a h ≡ unless r g h) (λ z. refl) (λ n. sym (ap (λ (t : Bool). cond t g h) (ne-eqb r 0 n)))
-
--- ---- a carried order was held
-
-pub in-carried : (l : List Held) (x : Carried) → In x (map carried l) → (e : Held) × In e l × (x ≡ carried e)
-in-carried [] x i = absurd i
-in-carried (e ∷ l) x (inl q) = (e, inl refl, q)
-in-carried (e ∷ l) x (inr i) = let r = in-carried l x i in (r .0, inr (r .1), r .2)
-
-pub carried-in : (l : List Held) (e : Held) → In e l → In (carried e) (map carried l)
-carried-in [] e i = absurd i
-carried-in (f ∷ l) e (inl q) = inl (ap carried q)
-carried-in (f ∷ l) e (inr i) = inr (carried-in l e i)

@@ -13,4 +13,5 @@ mod Answered
 pub mod Ours
 pub mod OurStarts
 pub mod OurCopies
+pub mod Follows
 pub mod Demand3

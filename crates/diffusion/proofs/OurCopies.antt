@@ -12,6 +12,7 @@ use Rattle.lists.specs.Members.{In}
 use Rattle.lists.specs.Lists.{any}
 use Rattle.lists.proofs.Bools.{and-left, and-right}
 use Rattle.lists.proofs.Listed.{none-member, some-member}
+use Rattle.lists.proofs.MemberLaws.{in-map, map-in}
 use Rattle.lists.proofs.TestLaws.{found, first-among}
 use Rattle.clock.specs.Clock.{largestReading, largestStamp}
 use Rattle.orders.specs.Orders.{shareFits, sameOrder}
@@ -32,20 +33,20 @@ use Rattle.host.proofs.Sets.{set-has}
 use Rattle.diffusion.specs.Hosts.{Carried, Copy, Call, start, receive, Takes, Sends, Refuses, SameName}
 use Rattle.diffusion.specs.Ours.{shown, carried, heldAs, called, ours}
 use Rattle.diffusion.proofs.Laws.{Δ, Owns, NoName, FirstRules}
-use Rattle.diffusion.proofs.Answered.{send-is, is-sent, refusal-is, in-carried, carried-in}
+use Rattle.diffusion.proofs.Answered.{send-is, is-sent, refusal-is}
 use Rattle.diffusion.proofs.Ours.{Ok, takes-is, is-takes}
 use Rattle.diffusion.proofs.OurStarts.{own-ends, full, laws}
 
 -- nothing is held under a name that no test finds
 no-name : (h : Host) (x : Carried) → any (sameName (heldAs x)) (heldOf h) ≡ false → NoName (map carried (heldOf h)) x
 no-name h x none y i same =
-    let f = in-carried (heldOf h) y i in
+    let f = map-in carried (heldOf h) y i in
     let name : sameName (heldAs x) (f .0) ≡ true = is-name (heldAs x) (f .0) (sym (same .0) ∙ ap (λ (c : Carried). c .stamp) (f .2)) (sym (same .1) ∙ ap (λ (c : Carried). c .source) (f .2)) in
     true≢false (sym name ∙ none-member (sameName (heldAs x)) (heldOf h) none (f .0) (f .1))
 
 -- what is held under its name
 named : (h : Host) (x : Carried) (e : Held) → In e (heldOf h) → sameName (heldAs x) e ≡ true → (y : Carried) × In y (map carried (heldOf h)) × SameName y x
-named h x e i q = let s = name-is (heldAs x) e q in (carried e, carried-in (heldOf h) e i, (sym (s .0), sym (s .1)))
+named h x e i q = let s = name-is (heldAs x) e q in (carried e, in-map carried (heldOf h) e i, (sym (s .0), sym (s .1)))
 
 module _ (P : Plan) (p U : ℕ) (h : Host) (k : Ok P p U h) where
   pub sent-hop : (c : Call) (x : Copy) (i : ℕ) → Sends (called U h c) x i → x .hop ≡ 0
@@ -106,7 +107,7 @@ module _ (P : Plan) (p U : ℕ) (h : Host) (k : Ok P p U h) where
         let s = name-is (heldAs (c .what)) (f .0) (and-left one two (f .2)) in
         let name : SameName (carried (f .0)) (c .what) = (sym (s .0), sym (s .1)) in
         let differ : sameOrder (c .what .order) (f .0 .order) ≡ false = not-true _ (and-right one two (f .2)) in
-        (carried (f .0), carried-in (heldOf h) (f .0) (f .1), name, (λ q. true≢false (sym (equal-same (c .what .order) (f .0 .order) (sym (ap (λ (z : Carried). z .order) q))) ∙ differ)))
+        (carried (f .0), in-map carried (heldOf h) (f .0) (f .1), name, (λ q. true≢false (sym (equal-same (c .what .order) (f .0 .order) (sym (ap (λ (z : Carried). z .order) q))) ∙ differ)))
 
     known : any (sameHeld (heldAs (c .what))) (heldOf h) ≡ true → (y : Carried) × In y (map carried (heldOf h)) × SameName y (c .what)
     known e =

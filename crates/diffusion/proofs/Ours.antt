@@ -15,7 +15,7 @@ use Rattle.lists.specs.Lists.{all, rising}
 use Rattle.lists.proofs.Bools.{and-left, and-right}
 use Rattle.lists.proofs.Listed.{all-member}
 use Rattle.lists.proofs.Loops.{keep-both}
-use Rattle.lists.proofs.MemberLaws.{in-all, in-append}
+use Rattle.lists.proofs.MemberLaws.{in-all, in-map, map-in}
 use Rattle.lists.proofs.Order.{rising-tail}
 use Rattle.lists.proofs.Rises.{first-before}
 use Rattle.clock.specs.Clock.{largestReading}
@@ -36,7 +36,7 @@ use Rattle.host.proofs.Outcomes.{after-call, accepted, sound-is-kept, sized-is-
 use Rattle.diffusion.specs.Hosts.{Carried, Copy, Call, start, receive, Answer, after, Takes, Before, Rising}
 use Rattle.diffusion.specs.Ours.{shown, carried, heldAs, answered, called, backwards, ours}
 use Rattle.diffusion.proofs.Laws.{Δ, W}
-use Rattle.diffusion.proofs.Answered.{take-is, is-taken, after-is, in-carried, carried-in}
+use Rattle.diffusion.proofs.Answered.{take-is, is-taken, after-is}
 
 -- the state is sound, is host p's under the plan and the first rules, and its last reading is at most U
 pub record Ok (P : Plan) (p U : ℕ) (h : Host) : Type 0 where
@@ -125,10 +125,10 @@ module _ (U : ℕ) (h : Host) (c : Call) where
     where
       told : (e : Held) → y ≡ carried e → r ≡ 0 → (e ≡ heldAs (about U h c)) ⊎ In e (heldOf h) → Takes (called U h c) y ⊎ In y (map carried (heldOf h))
       told e q z (inl w) = inl (subst (Takes (called U h c)) (sym (q ∙ ap carried w)) (is-takes U h c z))
-      told e q z (inr j) = inr (subst (λ (x : Carried). In x (map carried (heldOf h))) (sym q) (carried-in (heldOf h) e j))
+      told e q z (inr j) = inr (subst (λ (x : Carried). In x (map carried (heldOf h))) (sym q) (in-map carried (heldOf h) e j))
 
       go : (t : Bool) → eqb r 0 ≡ t → In y (map carried (heldOf g)) → Takes (called U h c) y ⊎ In y (map carried (heldOf h))
-      go true e j = let z = eqb-true r 0 e in let f = in-carried (heldOf g) y j in told (f .0) (f .2) z (more U h c z .only (f .0) (f .1))
+      go true e j = let z = eqb-true r 0 e in let f = map-in carried (heldOf g) y j in told (f .0) (f .2) z (more U h c z .only (f .0) (f .1))
       go false e j = inr (subst (λ (t : Bool). In y (map carried (heldOf (cond t (calls.becomes h (shown U) (callOf c)) h)))) e j)
 
   pub call-keeps : (y : Carried) → In y (map carried (heldOf h)) → In y (map carried (heldOf (after (called U h c) h)))
@@ -137,15 +137,15 @@ module _ (U : ℕ) (h : Host) (c : Call) where
     where
       go : (t : Bool) → eqb r 0 ≡ t → In y (map carried (heldOf g))
       go true e =
-          let f = in-carried (heldOf h) y i in
-          subst (λ (x : Carried). In x (map carried (heldOf g))) (sym (f .2)) (carried-in (heldOf g) (f .0) (more U h c (eqb-true r 0 e) .has-old (f .0) (f .1)))
+          let f = map-in carried (heldOf h) y i in
+          subst (λ (x : Carried). In x (map carried (heldOf g))) (sym (f .2)) (in-map carried (heldOf g) (f .0) (more U h c (eqb-true r 0 e) .has-old (f .0) (f .1)))
       go false e = subst (λ (t : Bool). In y (map carried (heldOf (cond t (calls.becomes h (shown U) (callOf c)) h)))) (sym e) i
 
   pub call-adds : (y : Carried) → Takes (called U h c) y → In y (map carried (heldOf (after (called U h c) h)))
   unfolding r g
   call-adds y k =
       let t = takes-is U h c y k in
-      let i : In (about U h c) (map carried (heldOf g)) = carried-in (heldOf g) (heldAs (about U h c)) (more U h c (t .0) .has-new) in
+      let i : In (about U h c) (map carried (heldOf g)) = in-map carried (heldOf g) (heldAs (about U h c)) (more U h c (t .0) .has-new) in
       subst (λ (s : Host). In y (map carried (heldOf s))) (sym (called-after U h c)) (subst (λ (x : Carried). In x (map carried (heldOf g))) (sym (t .1)) i)
 
 -- ---- what is held rises
@@ -154,7 +154,7 @@ pub carried-rises : (l : List Held) → rising before l ≡ true → Rising (map
 carried-rises [] up = tt
 carried-rises (x ∷ l) up = (
   in-all (Before (carried x)) (map carried l)
-      (λ y i. let f = in-carried l y i in subst (Before (carried x)) (sym (f .2)) (before-is x (f .0) (all-member (before x) l (first-before before before-trans x l up) (f .0) (f .1)))),
+      (λ y i. let f = map-in carried l y i in subst (Before (carried x)) (sym (f .2)) (before-is x (f .0) (all-member (before x) l (first-before before before-trans x l up) (f .0) (f .1)))),
   carried-rises l (rising-tail before x l up),
 )
 
@@ -175,15 +175,15 @@ module _ (P : Plan) (p U room : ℕ) (h : Host) (k : Ok P p U h) where
     where
       waits : tickRefusal h U room ≡ 0 → In x (map carried (heldOf (afterTick h (shown U))))
       waits z =
-          let f = in-carried (heldOf h) x i in
+          let f = map-in carried (heldOf h) x i in
           let same : tickHost h (shown U) room ≡ afterTick h (shown U) = accepted (tickRefusal h U room) (afterTick h (shown U)) h z in
           let waiting : In (f .0) (waitingOf h U) = in-waiting h U (f .0) (f .1) (subst (λ (b : ℕ). U < b) (sym (due-is x (f .0) (f .2))) l) in
           let there : In (f .0) (heldOf (afterTick h (shown U))) = subst (In (f .0)) (sym (ticked-held z) ∙ ap heldOf same) waiting in
-          subst (λ (y : Carried). In y (map carried (heldOf (afterTick h (shown U))))) (sym (f .2)) (carried-in (heldOf (afterTick h (shown U))) (f .0) there)
+          subst (λ (y : Carried). In y (map carried (heldOf (afterTick h (shown U))))) (sym (f .2)) (in-map carried (heldOf (afterTick h (shown U))) (f .0) there)
 
   pub tick-clears : (x : Carried) → U ≤ largestReading → 16 * length (dueOf h U) ≤ room → In x (map carried (heldOf (tickHost h (shown U) room))) → U < x .stamp + Δ P
   tick-clears x u l i =
-      let f = in-carried (heldOf (tickHost h (shown U) room)) x i in
+      let f = map-in carried (heldOf (tickHost h (shown U) room)) x i in
       let w = waiting-in h U (f .0) (subst (In (f .0)) (ticked-held (tick-refusal l u)) (f .1)) in
       subst (λ (b : ℕ). U < b) (due-is x (f .0) (f .2)) (w .1)
 
@@ -193,9 +193,9 @@ module _ (P : Plan) (p U room : ℕ) (h : Host) (k : Ok P p U h) where
   pub delivered-held : (x : Carried) → In x (map carried (unless (tickRefusal h U room) (dueOf h U) [])) → In x (map carried (heldOf h)) × (x .stamp + Δ P ≤ U) × (U ≤ largestReading)
   delivered-held x =
       after-call (λ (l : List Held). In x (map carried l) → In x (map carried (heldOf h)) × (x .stamp + Δ P ≤ U) × (U ≤ largestReading)) (tickRefusal h U room) (dueOf h U) []
-      (λ z i. (let f = in-carried (dueOf h U) x i in
+      (λ z i. (let f = map-in carried (dueOf h U) x i in
       let d = due-in h U (f .0) (f .1) in (
-        subst (λ (y : Carried). In y (map carried (heldOf h))) (sym (f .2)) (carried-in (heldOf h) (f .0) (d .0)),
+        subst (λ (y : Carried). In y (map carried (heldOf h))) (sym (f .2)) (in-map carried (heldOf h) (f .0) (d .0)),
         subst (λ (b : ℕ). b ≤ U) (due-is x (f .0) (f .2)) (d .1),
         tick-is h U room z .reading,
       )))
@@ -204,22 +204,22 @@ module _ (P : Plan) (p U room : ℕ) (h : Host) (k : Ok P p U h) where
   pub delivered-all : (x : Carried) → U ≤ largestReading → 16 * length (dueOf h U) ≤ room → In x (map carried (heldOf h)) → x .stamp + Δ P ≤ U
       → In x (map carried (unless (tickRefusal h U room) (dueOf h U) []))
   delivered-all x u l i b =
-      let f = in-carried (heldOf h) x i in
+      let f = map-in carried (heldOf h) x i in
       let there : In (f .0) (dueOf h U) = in-due h U (f .0) (f .1) (subst (λ (b : ℕ). b ≤ U) (sym (due-is x (f .0) (f .2))) b) in
       let all : unless (tickRefusal h U room) (dueOf h U) [] ≡ dueOf h U = accepted (tickRefusal h U room) (dueOf h U) [] (tick-refusal l u) in
       subst (λ (y : Carried). In y (map carried (unless (tickRefusal h U room) (dueOf h U) []))) (sym (f .2))
-      (subst (λ (d : List Held). In (carried (f .0)) (map carried d)) (sym all) (carried-in (dueOf h U) (f .0) there))
+      (subst (λ (d : List Held). In (carried (f .0)) (map carried d)) (sym all) (in-map carried (dueOf h U) (f .0) there))
 
 pub tick-adds-none : (U room : ℕ) (h : Host) (x : Carried) → In x (map carried (heldOf (tickHost h (shown U) room))) → In x (map carried (heldOf h))
 tick-adds-none U room h x = after-call (λ (s : Host). In x (map carried (heldOf s)) → In x (map carried (heldOf h))) (tickRefusal h U room) (afterTick h (shown U)) h waits (λ i. i)
   where
     waits : tickRefusal h U room ≡ 0 → In x (map carried (heldOf (afterTick h (shown U)))) → In x (map carried (heldOf h))
     waits z i =
-        let f = in-carried (heldOf (afterTick h (shown U))) x i in
+        let f = map-in carried (heldOf (afterTick h (shown U))) x i in
         let same : tickHost h (shown U) room ≡ afterTick h (shown U) = accepted (tickRefusal h U room) (afterTick h (shown U)) h z in
         let is : heldOf (afterTick h (shown U)) ≡ waitingOf h U = sym (ap heldOf same) ∙ held-is h (shown U) (calls.ticks room) z in
         let w = waiting-in h U (f .0) (subst (In (f .0)) is (f .1)) in
-        subst (λ (y : Carried). In y (map carried (heldOf h))) (sym (f .2)) (carried-in (heldOf h) (f .0) (w .0))
+        subst (λ (y : Carried). In y (map carried (heldOf h))) (sym (f .2)) (in-map carried (heldOf h) (f .0) (w .0))
 
 pub lent-enough : (U : ℕ) (h : Host) → h .held ≤ 32 → 16 * length (dueOf h U) ≤ 512
 lent-enough U h few = let both = keep-both (due (h .bound) U) (heldOf h) in let most = held-most h in omega arith

@@ -2,7 +2,7 @@
 use mathlib.Core.Path.{_≡_, refl, sym, ap, _∙_, subst}
 use mathlib.Core.Logic.{_⊎_, inl, inr}
 use mathlib.Core.Bool.{Bool, true, false, not, cond, _&&_}
-use mathlib.Core.List.{List, [], _∷_, _++_}
+use mathlib.Core.List.{List, [], _∷_, _++_, map}
 use Prim.Native.Nat.{ℕ, zero, suc, _≤_, _<_}
 use native.Mathlib.Decide.{ℕ-discrete}
 use native.Mathlib.Nat.{not-suc-le-zero}
@@ -134,3 +134,15 @@ pigeon-all n l d a =
     let c = count-all n in
     let p = pigeon n (λ x. true) l d (all-map _ _ (λ x h. (h, refl)) l a) in
     omega arith
+
+-- ---- who is in a list of values
+
+pub in-map : {A B : Type 0} (f : A → B) (l : List A) (x : A) → In x l → In (f x) (map f l)
+in-map f [] x i = absurd i
+in-map f (y ∷ l) x (inl e) = inl (ap f e)
+in-map f (y ∷ l) x (inr i) = inr (in-map f l x i)
+
+pub map-in : {A B : Type 0} (f : A → B) (l : List A) (y : B) → In y (map f l) → (x : A) × In x l × (y ≡ f x)
+map-in f [] y i = absurd i
+map-in f (x ∷ l) y (inl e) = (x, inl refl, e)
+map-in f (x ∷ l) y (inr i) = let r = map-in f l y i in (r .0, inr (r .1), r .2)
