@@ -37,11 +37,19 @@ def parts(n, links, pi, lost):
     return d
 
 
+def out_of_range(n, pi, m, lost, delay, skew, places):
+    return not (2 <= n <= 8 and 1 <= m <= 12 and 0 <= pi <= n - 2 and lost <= 12 and 1 <= delay <= 64 and 1 <= skew <= 64)
+
+
+def bad_links(n, links):
+    return any(a >= n or b >= n or a >= b for a, b in links) or len(set(links)) < len(links)
+
+
 def answer(n, pi, m, lost, delay, skew, places):
-    if not (2 <= n <= 8 and 1 <= m <= 12 and 0 <= pi <= n - 2 and lost <= 12 and 1 <= delay <= 64 and 1 <= skew <= 64):
+    if out_of_range(n, pi, m, lost, delay, skew, places):
         return "refused 1"
     links = [tuple(l) for l in places[:m]]
-    if any(a >= n or b >= n or a >= b for a, b in links) or len(set(links)) < len(links):
+    if bad_links(n, links):
         return "refused 2"
     d = parts(n, links, pi, lost)
     if d is None:
@@ -95,7 +103,5 @@ def drawn(count):
         seed = draws[8]
 
 
-for line in edges():
-    print(line)
-for line in drawn(400):
-    print(line)
+if __name__ == "__main__":
+    print(*edges(), *drawn(400), sep="\n")
