@@ -6,7 +6,7 @@ use mathlib.Core.List.{List, [], _∷_, map}
 use Prim.Native.Nat.{ℕ, _+_, _*_, _≤_, _<_}
 use native.Mathlib.Nat.{lt-of-not-le, eq-or-lt-of-le}
 use native.Mathlib.Omega.{arith}
-use borrow.Author.Tests.{leb-true, leb-false, le-leb, lt-leb, lt-ltb, ltb-true, eqb-true, eqb-false, eq-eqb, ne-eqb, not-false, not-true}
+use borrow.Author.Tests.{leb-true, leb-false, lt-ltb, ltb-true, eqb-false, eq-eqb, ne-eqb, not-true}
 use lib.Dec.{leb, ltb, eqb}
 use Rattle.lists.specs.Tests.{firstOf}
 use Rattle.lists.specs.Lists.{any, keep}
@@ -17,19 +17,17 @@ use Rattle.lists.proofs.TestLaws.{Found, found, first-among}
 use Rattle.lists.proofs.Listed.{some-member, none-member}
 use Rattle.clock.specs.declared.Reading.{Reading}
 use Rattle.orders.specs.declared.Order.{Order}
-use Rattle.orders.specs.Orders.{sameOrder}
-use Rattle.orders.proofs.Laws.{same-equal, equal-same}
 use Rattle.network.specs.Network.{m, δ, ε, has}
 use Rattle.network.specs.declared.Plan.{Plan}
 use Rattle.network.proofs.Bits.{has-none}
 use Rattle.host.specs.declared.Held.{Held}
 use Rattle.host.specs.declared.Host.{Host}
-use Rattle.host.specs.State.{heldOf, sameName}
-use Rattle.host.specs.Calls.{unless, Said, saidBy, setOf, ends, endsBut, ownLinks, otherLinks, relayLinks, relayHop, startOf, startTests, startRefusal, startHost, early, late, due, sameHeld, receiveTests, receiveRefusal, receiveSays, afterReceive, receiveHost, dueOf, waitingOf, tickTests, tickRefusal, tickHost, start, receive, ticks}
+use Rattle.host.specs.State.{heldOf}
+use Rattle.host.specs.Calls.{unless, Said, saidBy, setOf, ends, endsBut, ownLinks, otherLinks, relayLinks, relayHop, startOf, startTests, startRefusal, startHost, early, late, sameHeld, receiveTests, receiveRefusal, receiveSays, afterReceive, receiveHost, tickTests, tickRefusal, ticks}
 use Rattle.host.specs.Published.{Protocol, first, second, TooEarly, TooLate, Line, tooEarly, tooLate, lateMessage, dejaVu, relays, Relay, Sends, Leaves, startHop, relayedHop, Both, Runs, historyOf, Adjacent, isOwn, numberOf, AsStart, AsRelay, AsDelivery, AsDeliveries}
 use Rattle.host.proofs.Sets.{set-has}
 use Rattle.host.proofs.Names.{same-held, held-same}
-use Rattle.host.proofs.Outcomes.{accepted, held-is, OneMore, start-more, receive-more, due-in, in-due, waiting-in, in-waiting}
+use Rattle.host.proofs.Outcomes.{held-is, OneMore, start-more, receive-more, due-in, in-due, waiting-in, in-waiting}
 
 -- ---- links and hops
 

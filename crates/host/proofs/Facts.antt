@@ -1,8 +1,8 @@
 -- What soundness and an accepted call say, each fact by its name. Assumes nothing.
 use mathlib.Core.Path.{_≡_, refl, sym, ap, _∙_}
 use mathlib.Core.Bool.{Bool, true, false, not, cond, _&&_}
-use mathlib.Core.List.{List, [], _∷_}
-use Prim.Native.Nat.{ℕ, _+_, _*_, _-_, _≤_, _<_}
+use mathlib.Core.List.{List, _∷_}
+use Prim.Native.Nat.{ℕ, _+_, _*_, _≤_, _<_}
 use native.Mathlib.Omega.{arith}
 use borrow.Author.Tests.{not-false, not-true, leb-true, leb-false, ltb-true, ltb-false, le-leb, lt-leb, lt-ltb, le-ltb, eqb-true, eq-eqb}
 use lib.Dec.{leb, ltb, eqb}
@@ -10,7 +10,7 @@ use lib.ListN.{length, getD, drop}
 use Rattle.lists.specs.Tests.{firstOf}
 use Rattle.lists.specs.Lists.{all, any, rising}
 use Rattle.lists.proofs.Bools.{and-left, and-right}
-use Rattle.lists.proofs.TestLaws.{Each, all-each, each-all, none-pass, pass-none, numbered, firstLeft, first-chain}
+use Rattle.lists.proofs.TestLaws.{all-each, each-all, none-pass, pass-none, numbered, firstLeft, first-chain}
 use Rattle.clock.specs.Clock.{largestReading, largestStamp}
 use Rattle.orders.specs.Orders.{shareFits}
 use Rattle.orders.specs.Rules.{isRules, hopFits}
@@ -19,7 +19,7 @@ use Rattle.network.specs.Network as net
 use Rattle.host.specs.declared.Held.{Held}
 use Rattle.host.specs.declared.Host.{Host}
 use Rattle.host.specs.State.{noReading, isNoLink, isNoReading, isNoHeld, startsOf, heldOf, lastStart, sameName, before, earlier, fits, ownStarted, notAbove, soundTests, sound}
-use Rattle.host.specs.Calls.{ends, startTests, startRefusal, inPlan, copyFits, early, late, due, sameHeld, otherHeld, receiveTests, receiveRefusal, dueOf, tickTests, tickRefusal}
+use Rattle.host.specs.Calls.{ends, startTests, startRefusal, early, late, sameHeld, otherHeld, receiveTests, receiveRefusal, dueOf, tickTests, tickRefusal}
 
 pub record SoundIs (h : Host) : Type 0 where
   pub ranges : net.inRange (h .plan) ≡ true
@@ -137,6 +137,10 @@ unfolding startTests
 start-runs h u o k =
     pass-none (startTests h u o)
     (ap not (is-sound h (k .sound)), (ap not (k .share), (ap not (le-leb _ _ (k .stamp)), (le-ltb _ _ (k .later), (k .not-again, (k .in-window, (lt-leb _ _ (k .room), tt)))))))
+
+-- where there were four starts, the fourth last lies W back
+pub fourth-back : (h : Host) (u : ℕ) (o : Order) → StartIs h u o → 4 ≤ h .started → getD (h .starts) 0 noReading .0 + net.window (h .rules) (h .plan) (h .d) ≤ u
+fourth-back h u o k four = leb-true _ _ (not-false _ (rw (le-leb 4 (h .started) four) at (k .in-window)))
 
 -- a received copy that is not refused
 pub record ReceiveIs (h : Host) (u arrival hop : ℕ) (x : Held) : Type 0 where

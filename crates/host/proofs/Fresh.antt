@@ -1,12 +1,12 @@
 -- The making of a host: what planning's answer says of it, and that a made host is sound and has the given plan's network. Assumes nothing.
 use mathlib.Core.Path.{_≡_, refl, sym, ap, ap₂, subst, _∙_}
 use mathlib.Core.Bool.{Bool, true, false, not, cond}
-use mathlib.Core.List.{List, [], _∷_}
+use mathlib.Core.List.{[], _∷_}
 use Prim.Native.Nat.{ℕ, _+_, _*_, _≤_, _<_, zero-le}
 use native.Mathlib.Nat.{min-le-left, lt-of-lt-of-le, le-of-lt}
 use borrow.Author.Tests.{eqb-true, not-false, leb-false, lt-leb}
 use lib.Dec.{leb, eqb}
-use lib.ListN.{length, getD, length-take}
+use lib.ListN.{length, length-take}
 use lib.Seq.{getD-take}
 use Rattle.lists.specs.Tests.{allOf, anyOf, firstOf}
 use Rattle.lists.proofs.TestLaws.{first-join, none-pass, pass-none}

@@ -1,22 +1,22 @@
 -- Every call keeps a state sound, and a made host is sound. Assumes nothing.
 use mathlib.Core.Path.{_≡_, refl, sym, ap, subst, _∙_}
 use mathlib.Core.Logic.{_⊎_, inl, inr}
-use mathlib.Core.Bool.{Bool, true, false, not, _&&_, _||_, and-true}
+use mathlib.Core.Bool.{Bool, true, false, not, _&&_, and-true}
 use mathlib.Core.List.{List, [], _∷_, _++_, append-assoc}
 use Prim.Native.Nat.{ℕ, _+_, _-_, _≤_, _<_}
 use native.Mathlib.Omega.{arith}
 use native.Mathlib.Nat.{le-refl, le-trans, le-of-lt, min-le-left}
-use borrow.Author.Tests.{not-true, leb-true, le-leb, lt-ltb, ltb-true, eqb-true, eqb-false, eq-eqb}
+use borrow.Author.Tests.{not-true, leb-true, le-leb, lt-ltb, ltb-true, eqb-false}
 use lib.Dec.{leb, ltb, eqb}
 use lib.ListN.{length, getD, take, drop, length-append, length-take, replicate}
 use lib.Seq.{length-take-le, getD-take, getD-at}
-use Rattle.lists.specs.Lists.{all, any, rising, insert, keep, pad}
+use Rattle.lists.specs.Lists.{all, any, rising, insert, pad}
 use Rattle.lists.specs.Members.{In}
 use Rattle.lists.proofs.Bools.{false-unless, and-left, and-right, or-cases, or-true-left, or-true-right}
 use Rattle.lists.proofs.Listed.{all-member, member-all, all-drop, all-append, all-keep, none-member, member-none, in-some, in-insert}
 use Rattle.lists.proofs.Order.{insert-rising, keep-rising}
 use Rattle.lists.proofs.Rises.{rising-drop, rising-snoc, before-last}
-use Rattle.lists.proofs.Places.{length-insert, take-pad, drop-pad, length-pad}
+use Rattle.lists.proofs.Places.{length-insert, take-pad, drop-pad}
 use Rattle.lists.proofs.Loops.{keep-both, all-at}
 use Rattle.clock.specs.declared.Reading.{Reading}
 use Rattle.orders.specs.Orders.{sameOrder}
@@ -28,7 +28,7 @@ use Rattle.host.specs.State.{noReading, noHeld, isNoReading, isNoHeld, s
 use Rattle.host.specs.Calls.{at, withStart, startOf, afterStart, sameHeld, otherHeld, afterReceive, due, waitingOf, afterTick}
 use Rattle.host.proofs.Names.{name-is, before-trans, before-total}
 use Rattle.host.proofs.Slides.{with-length}
-use Rattle.host.proofs.Facts.{SoundIs, sound-is, is-sound, StartIs, start-is, ReceiveIs, receive-is, TickIs, tick-is}
+use Rattle.host.proofs.Facts.{SoundIs, StartIs, ReceiveIs, TickIs}
 
 earlier-trans : (x y z : Reading) → earlier x y ≡ true → earlier y z ≡ true → earlier x z ≡ true
 earlier-trans x y z a b = let f : x .0 < y .0 = ltb-true _ _ a in let g : y .0 < z .0 = ltb-true _ _ b in lt-ltb (x .0) (z .0) (omega arith)

@@ -2,7 +2,7 @@
 pub mod Numbers
 pub mod Sets
 pub mod Blanks
-mod Slides
+pub mod Slides
 pub mod Facts
 pub mod Writes
 pub mod Fresh

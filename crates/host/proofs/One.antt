@@ -12,15 +12,19 @@ use Rattle.host.specs.declared.Host.{Host}
 use Rattle.host.specs.declared.Made.{Made}
 use Rattle.host.specs.declared.Acted.{Acted}
 use Rattle.host.specs.declared.Ticked.{Ticked}
+use Rattle.host.specs.declared.Refusal.{Refusal}
 use Rattle.host.specs.declared.Verdict.{Verdict}
 use Rattle.host.specs.declared.SendAnswer.{SendAnswer}
 use Rattle.host.specs.declared.TickAnswer.{TickAnswer}
 use Rattle.host.specs.State.{sound}
-use Rattle.host.specs.Calls.{refusalOf, Said, says, saysTick, makeRefusal, makeHost, startSays, startHost, receiveSays, receiveHost, tickSays, tickHost, tickList}
+use Rattle.host.specs.Calls.{number, refusalOf, Said, says, saysTick, makeRefusal, makeHost, startSays, startHost, receiveSays, receiveHost, tickSays, tickHost, tickList}
 use Rattle.host.proofs.Numbers.{verdict-one, says-one, tick-one}
 
 pub one-is-sound : (h : Host) (r s : Bool) → r ≡ sound h → s ≡ sound h → r ≡ s
 one-is-sound h r s x y = x ∙ sym y
+
+pub one-number-of : (r : Refusal) (m n : ℕ) → m ≡ number r → n ≡ number r → m ≡ n
+one-number-of r m n x y = x ∙ sym y
 
 pub one-make : (p : Plan) (rules own : ℕ) (r s : Made)
     → (r .host ≡ makeHost p rules own) × (refusalOf (r .answer) ≡ makeRefusal p rules own)

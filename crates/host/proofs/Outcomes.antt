@@ -1,16 +1,15 @@
 -- What a call leaves: the state is sound again, its last reading never falls, and what is held and started is known, as lists and by membership.
 -- Assumes nothing.
 use mathlib.Core.Path.{_≡_, refl, sym, ap, subst, _∙_}
-use mathlib.Core.Logic.{_⊎_, inl, inr}
+use mathlib.Core.Logic.{_⊎_}
 use mathlib.Core.Bool.{Bool, true, false, not, cond}
-use mathlib.Core.List.{List, [], _∷_}
+use mathlib.Core.List.{List, []}
 use Prim.Native.Nat.{ℕ, _+_, _*_, _≤_, _<_, zero-le}
 use native.Mathlib.Nat.{le-refl}
-use native.Mathlib.Omega.{arith}
 use borrow.Author.Tests.{not-true, leb-true, leb-false, le-leb, lt-leb, eqb-true}
-use lib.Dec.{leb, eqb}
+use lib.Dec.{eqb}
 use lib.ListN.{length}
-use Rattle.lists.specs.Lists.{rising, insert, keep, pad}
+use Rattle.lists.specs.Lists.{rising, insert, keep}
 use Rattle.lists.specs.Members.{In}
 use Rattle.lists.proofs.MemberLaws.{in-keep, keep-in}
 use Rattle.lists.proofs.Listed.{in-insert, insert-new, insert-old, member-none, keep-none, keep-again, member-all}

@@ -1,7 +1,7 @@
 -- Which refusals a call can give, and what each says of the state and the call: the tests before its own failed, and its own passed.
 -- Assumes nothing.
 use mathlib.Core.Path.{_≡_, refl}
-use mathlib.Core.List.{List, [], _∷_}
+use mathlib.Core.List.{[], _∷_}
 use Prim.Native.Nat.{ℕ}
 use Rattle.lists.specs.Members.{In}
 use Rattle.lists.proofs.TestLaws.{Found, found, first-among}

@@ -34,3 +34,17 @@ in-place (a ∷ b ∷ []) u h = absurd (omega arith)
 in-place (a ∷ b ∷ c ∷ []) u h = absurd (omega arith)
 in-place (a ∷ b ∷ c ∷ d ∷ []) u h = refl
 in-place (a ∷ b ∷ c ∷ d ∷ e ∷ l) u h = absurd (omega arith)
+
+-- ---- the starts as numbers, the last first
+
+abbrev pub lastFirst : List Reading → List ℕ
+lastFirst [] = []
+lastFirst (s ∷ l) = lastFirst l ++ (s .0 ∷ [])
+
+pub last-first : (l : List Reading) (u : Reading) → length l ≤ 4 → lastFirst (withStart l u) ≡ take 4 (u .0 ∷ lastFirst l)
+last-first [] u h = refl
+last-first (a ∷ []) u h = refl
+last-first (a ∷ b ∷ []) u h = refl
+last-first (a ∷ b ∷ c ∷ []) u h = refl
+last-first (a ∷ b ∷ c ∷ d ∷ []) u h = refl
+last-first (a ∷ b ∷ c ∷ d ∷ e ∷ l) u h = absurd (omega arith)

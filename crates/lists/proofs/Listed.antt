@@ -1,7 +1,7 @@
 -- Tests of a list's elements, by its members; and who is in a list after one is put in. Assumes nothing.
-use mathlib.Core.Path.{_≡_, refl, sym, ap, _∙_}
+use mathlib.Core.Path.{_≡_, refl, ap, _∙_}
 use mathlib.Core.Logic.{_⊎_, inl, inr}
-use mathlib.Core.Bool.{Bool, true, false, cond, false≢true, true≢false}
+use mathlib.Core.Bool.{Bool, true, false, cond, false≢true}
 use mathlib.Core.List.{List, [], _∷_, _++_}
 use Prim.Native.Nat.{ℕ, zero, suc, _<_}
 use native.Mathlib.Nat.{zero-lt-suc}
@@ -9,7 +9,7 @@ use lib.ListN.{length, drop}
 use Rattle.lists.specs.Lists.{all, any, insert, keep}
 use Rattle.lists.specs.Members.{In}
 use Rattle.lists.proofs.MemberLaws.{in-keep}
-use Rattle.lists.proofs.Bools.{false-unless, and-left, and-right, or-left, or-right, or-cases}
+use Rattle.lists.proofs.Bools.{and-left, and-right, or-left, or-right, or-cases}
 
 module _ {A : Type 0} (p : A → Bool) where
   pub all-member : (l : List A) → all p l ≡ true → (x : A) → In x l → p x ≡ true

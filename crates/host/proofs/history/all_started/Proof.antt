@@ -1,12 +1,12 @@
 -- What is left to test is the list; each turn tests its first. Assumes nothing.
 use borrow.Author.Needs.{needs}
-use mathlib.Core.Path.{_≡_, refl, sym, ap, _∙_}
-use Prim.Native.Nat.{ℕ, _+_, _-_, _≤_, _<_}
-use lib.ListN.{length, take, drop, getD}
-use mathlib.Core.Bool.{_&&_, _||_, not, true, cond}
-use Rattle.lists.specs.Lists.{all, any, rising, risingFrom, insert, pad}
-use Rattle.lists.proofs.Loops.{left-next, left-none, first-next, first-none, all-turn, all-end, any-turn, any-end, rising-turn, rising-end, rising-start}
-use Rattle.host.specs.State.{noReading, noLink, noHeld, sameName, before, earlier, fits, ownStarted, notAbove, isNoLink, isNoReading, isNoHeld}
+use mathlib.Core.Path.{_≡_, refl}
+use Prim.Native.Nat.{_-_, _≤_}
+use lib.ListN.{take, drop}
+use mathlib.Core.Bool.{_&&_}
+use Rattle.lists.specs.Lists.{all}
+use Rattle.lists.proofs.Loops.{first-next, first-none, all-turn, all-end}
+use Rattle.host.specs.State.{noHeld, ownStarted}
 use Rattle.host.proofs.history.all_started.Statement.{statement}
 use Rattle.host.proofs.history.all_started.Tie as tie
 

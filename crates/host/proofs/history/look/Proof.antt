@@ -1,13 +1,13 @@
 -- What is left to look at is the list; each turn looks at its first. Assumes nothing.
 use borrow.Author.Needs.{needs}
-use mathlib.Core.Path.{_≡_, refl, sym, ap, _∙_}
-use Prim.Native.Nat.{ℕ, _+_, _-_, _≤_, _<_}
-use lib.ListN.{length, take, drop, getD}
-use mathlib.Core.Bool.{_&&_, _||_, not, true, cond}
-use Rattle.lists.specs.Lists.{all, any, rising, risingFrom, insert, pad}
-use Rattle.lists.proofs.Loops.{left-next, left-none, first-next, first-none, all-turn, all-end, any-turn, any-end, rising-turn, rising-end, rising-start}
-use Rattle.host.specs.State.{noReading, noLink, noHeld, sameName, before, earlier, fits, ownStarted, notAbove, isNoLink, isNoReading, isNoHeld}
-use Rattle.host.specs.Calls.{sameHeld, otherHeld, setOf, endsBut}
+use mathlib.Core.Path.{_≡_, refl}
+use Prim.Native.Nat.{_-_, _≤_}
+use lib.ListN.{take, drop}
+use mathlib.Core.Bool.{_&&_, _||_, not}
+use Rattle.lists.specs.Lists.{any}
+use Rattle.lists.proofs.Loops.{first-next, first-none, any-turn, any-end}
+use Rattle.host.specs.State.{noHeld, sameName}
+use Rattle.host.specs.Calls.{sameHeld, otherHeld}
 use Rattle.host.proofs.history.look.Statement.{statement}
 use Rattle.host.proofs.history.look.Tie as tie
 

@@ -1,14 +1,12 @@
 -- What was passed comes before x; x stands before the rest, or before what is left. Assumes nothing.
 use borrow.Author.Needs.{needs}
 use mathlib.Core.Path.{_≡_, refl, sym, ap, _∙_}
-use Prim.Native.Nat.{ℕ, _+_, _-_, _≤_, _<_}
-use lib.ListN.{length, take, drop, getD}
-use mathlib.Core.Bool.{_&&_, _||_, not, true, cond}
-use Rattle.lists.specs.Lists.{all, any, rising, risingFrom, insert, pad}
-use Rattle.lists.proofs.Loops.{left-next, left-none, first-next, first-none, all-turn, all-end, any-turn, any-end, rising-turn, rising-end, rising-start}
-use Rattle.host.specs.State.{noReading, noLink, noHeld, sameName, before, earlier, fits, ownStarted, notAbove, isNoLink, isNoReading, isNoHeld}
-use mathlib.Core.List.{List, _∷_, _++_}
-use Rattle.lists.proofs.Places.{put-pad, place-turn, place-found, place-end, shift-turn, shift-end}
+use Prim.Native.Nat.{_-_, _≤_, _<_}
+use lib.ListN.{length, take, drop}
+use Rattle.lists.specs.Lists.{insert}
+use Rattle.host.specs.State.{noHeld, before}
+use mathlib.Core.List.{_++_}
+use Rattle.lists.proofs.Places.{place-turn, place-found, place-end}
 use lib.Seq.{length-take-le, getD-take}
 use Rattle.host.proofs.history.place.Statement.{statement}
 use Rattle.host.proofs.history.place.Tie as tie

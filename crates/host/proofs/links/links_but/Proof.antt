@@ -1,11 +1,11 @@
 -- The set of the links from i on, made from the last one down. Assumes nothing.
 use borrow.Author.Needs.{needs}
 use native.Mathlib.Omega.{arith}
-use Prim.Native.Nat.{ℕ, _+_, _-_, _≤_, _<_}
+use Prim.Native.Nat.{ℕ, _+_, _-_, _≤_}
 use Rattle.host.specs.Calls.{setOf, endsBut}
 use Rattle.network.specs.Network.{m}
 use Rattle.host.proofs.Sets.{bit-most, set-most, set-turn, set-none, set-whole}
-use mathlib.Core.Path.{_≡_, refl, sym, ap, _∙_}
+use mathlib.Core.Path.{_≡_, ap, _∙_}
 use mathlib.Core.Bool.{Bool, cond}
 use Rattle.host.proofs.links.links_but.Statement.{statement}
 use Rattle.host.proofs.links.links_but.Tie as tie

@@ -1,5 +1,5 @@
 -- One line for each rule set. Assumes nothing.
-use borrow.Author.Tests.{not-false, lt-leb, le-leb, lt-ltb, le-ltb, eq-eqb, ne-eqb}
+use borrow.Author.Tests.{eq-eqb, ne-eqb}
 use Rattle.host.proofs.making.bound_of.Statement.{statement}
 use Rattle.host.proofs.making.bound_of.Tie as tie
 

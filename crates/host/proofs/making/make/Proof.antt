@@ -1,6 +1,6 @@
 -- Planning's refusals come first, with their numbers. Assumes nothing.
 use borrow.Author.Needs.{needs}
-use mathlib.Core.Path.{_≡_, refl, sym, ap, _∙_}
+use mathlib.Core.Path.{_≡_, sym, ap, _∙_}
 use Rattle.host.specs.Calls.{number, makeRefusal, noHost}
 use Rattle.host.specs.declared.Refusal.the-variants.{OutOfRange, BadLink, Parted}
 use Rattle.network.specs.Network.{says}

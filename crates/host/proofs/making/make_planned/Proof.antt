@@ -1,10 +1,9 @@
 -- Planning refuses nothing, so 23 and 15 are asked; Δ and d are planning's. Assumes nothing.
 use borrow.Author.Needs.{needs}
-use mathlib.Core.Path.{_≡_, refl, sym, ap, _∙_}
-use mathlib.Core.Bool.{Bool, not, true, false}
+use mathlib.Core.Path.{_≡_, sym, ap, _∙_}
+use mathlib.Core.Bool.{not}
 use borrow.Author.Tests.{le-leb, lt-leb}
-use Prim.Native.Nat.{ℕ}
-use Rattle.host.specs.Calls.{number, makeRefusal, noHost, unstarted, cleared}
+use Rattle.host.specs.Calls.{number, makeRefusal, noHost}
 use Rattle.host.specs.declared.Refusal.the-variants.{BadValue, NotInPlan}
 use Rattle.network.proofs.Ranges.{ranges}
 use Rattle.network.proofs.Answers.{fine}

@@ -1,6 +1,6 @@
 -- The number is tested before the link is looked at. Assumes nothing.
 use borrow.Author.Needs.{needs}
-use borrow.Author.Tests.{not-false, lt-leb, le-leb, lt-ltb, le-ltb, eq-eqb, ne-eqb}
+use borrow.Author.Tests.{lt-ltb, le-ltb}
 use Rattle.host.proofs.receiving.is_in_plan.Statement.{statement}
 use Rattle.host.proofs.receiving.is_in_plan.Tie as tie
 

@@ -1,7 +1,6 @@
 -- Each part of the new state and of the answer is its own function of the old. Assumes nothing.
 use borrow.Author.Needs.{needs}
 use native.Mathlib.Omega.{arith}
-use mathlib.Core.Path.{_≡_, refl, sym, ap, _∙_}
 use Rattle.network.proofs.Ranges.{ranges}
 use Rattle.host.proofs.Facts.{receive-is, hop-most}
 use Rattle.host.proofs.receiving.receive_accepted.Statement.{statement}

@@ -1,14 +1,13 @@
 -- The chain of checks is the order of checks. Assumes nothing.
 use borrow.Author.Needs.{needs}
-use mathlib.Core.Path.{_≡_, refl, sym, ap, _∙_}
+use mathlib.Core.Path.{refl, ap}
 use mathlib.Core.Bool.{Bool, not, _&&_}
 use lib.ListN.{drop}
-use Prim.Native.Nat.{ℕ}
 use Rattle.lists.proofs.TestLaws.{or-step}
 use Rattle.host.specs.Calls.{receiveTests}
 use Rattle.host.proofs.Facts.{sound-is, past-sound}
 use Rattle.network.proofs.Ranges.{ranges}
-use lib.Dec.{eqb, ltb, leb}
+use lib.Dec.{eqb}
 use Rattle.host.proofs.receiving.receive_checks.Statement.{statement}
 use Rattle.host.proofs.receiving.receive_checks.Tie as tie
 

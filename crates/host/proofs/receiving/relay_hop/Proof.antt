@@ -1,6 +1,6 @@
 -- One line for each case. Assumes nothing.
 use borrow.Author.Needs.{needs}
-use borrow.Author.Tests.{not-false, lt-leb, le-leb, lt-ltb, le-ltb, eq-eqb, ne-eqb}
+use borrow.Author.Tests.{eq-eqb, ne-eqb}
 use Rattle.host.proofs.receiving.relay_hop.Statement.{statement}
 use Rattle.host.proofs.receiving.relay_hop.Tie as tie
 

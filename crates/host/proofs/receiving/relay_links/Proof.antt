@@ -1,6 +1,6 @@
 -- A copy with hop 8 goes on no link. Assumes nothing.
 use borrow.Author.Needs.{needs}
-use borrow.Author.Tests.{not-false, lt-leb, le-leb, lt-ltb, le-ltb, eq-eqb, ne-eqb}
+use borrow.Author.Tests.{eq-eqb, ne-eqb}
 use Rattle.host.proofs.receiving.relay_links.Statement.{statement}
 use Rattle.host.proofs.receiving.relay_links.Tie as tie
 

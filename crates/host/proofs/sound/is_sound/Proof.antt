@@ -1,6 +1,6 @@
 -- The chain of tests is the list of tests; a count too large fails its own test. Assumes nothing.
 use borrow.Author.Needs.{needs}
-use mathlib.Core.Path.{_≡_, refl, sym, ap, _∙_}
+use mathlib.Core.Path.{sym}
 use borrow.Author.Tests.{lt-leb}
 use Rattle.lists.proofs.TestLaws.{all-miss, all-chain}
 use Rattle.host.specs.State.{soundTests}

@@ -1,6 +1,6 @@
 -- A refusal keeps the state; else the accepted part has both. Assumes nothing.
 use borrow.Author.Needs.{needs}
-use mathlib.Core.Path.{_≡_, refl, sym, ap, _∙_}
+use mathlib.Core.Path.{_≡_, sym, ap, _∙_}
 use Rattle.host.specs.Calls.{number, refusalOf, startRefusal}
 use Rattle.host.proofs.Numbers.{kept, says-refused}
 use Rattle.host.proofs.starting.start.Statement.{statement}

@@ -1,8 +1,6 @@
 -- Each part of the new state and of the answer is its own function of the old. Assumes nothing.
 use borrow.Author.Needs.{needs}
-use mathlib.Core.Path.{_≡_, refl, sym, ap, _∙_}
 use Rattle.network.proofs.Ranges.{ranges}
-use Rattle.host.specs.Calls.{startRefusal}
 use Rattle.host.proofs.Sets.{all-own}
 use Rattle.host.proofs.Facts.{start-is}
 use native.Mathlib.Omega.{arith}

@@ -5,14 +5,13 @@ use lib.ListN.{getD}
 use Rattle.clock.specs.declared.Reading.{Reading}
 use Rattle.host.specs.State.{noReading}
 use borrow.Author.Needs.{needs}
-use mathlib.Core.Path.{_≡_, refl, sym, ap, _∙_}
+use mathlib.Core.Path.{refl, ap, _∙_}
 use mathlib.Core.Bool.{Bool, not, _&&_}
 use lib.ListN.{drop}
 use Prim.Native.Nat.{ℕ, _+_}
 use Rattle.lists.proofs.TestLaws.{or-step}
 use Rattle.host.specs.Calls.{startTests}
 use Rattle.host.proofs.Facts.{sound-is, past-sound}
-use Rattle.network.proofs.Ranges.{ranges}
 use lib.Dec.{eqb, ltb, leb}
 use Rattle.host.proofs.starting.start_checks.Statement.{statement}
 use Rattle.host.proofs.starting.start_checks.Tie as tie

@@ -1,9 +1,9 @@
 -- Where there is none, the place before the first is the first. Assumes nothing.
 use borrow.Author.Needs.{needs}
-use mathlib.Core.Path.{_≡_, refl, sym, ap, _∙_}
-use Prim.Native.Nat.{ℕ, _+_, _-_, _≤_, _<_}
+use mathlib.Core.Path.{sym, ap}
+use Prim.Native.Nat.{ℕ, _-_}
 use lib.ListN.{getD}
-use Rattle.host.specs.State.{noReading, noLink, noHeld, sameName, before, earlier, fits, ownStarted, notAbove, isNoLink, isNoReading, isNoHeld}
+use Rattle.host.specs.State.{noReading, before}
 use Rattle.host.proofs.starts.newest.Statement.{statement}
 use Rattle.host.proofs.starts.newest.Tie as tie
 

@@ -1,8 +1,7 @@
 -- Fewer than four leave room behind them; of four the oldest goes. Assumes nothing.
 use borrow.Author.Needs.{needs}
-use mathlib.Core.Path.{_≡_, refl, sym, ap, _∙_}
-use Prim.Native.Nat.{ℕ, _+_, _-_, _≤_, _<_}
-use lib.ListN.{length, take, drop, getD}
+use mathlib.Core.Path.{_≡_, sym, ap, _∙_}
+use lib.ListN.{length, take}
 use lib.Seq.{length-take-le, take-all}
 use mathlib.Core.List.{List}
 use Rattle.lists.specs.Lists.{pad}

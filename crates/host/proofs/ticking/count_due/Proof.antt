@@ -2,15 +2,12 @@
 use borrow.Author.Needs.{needs}
 use native.Mathlib.Omega.{arith}
 use mathlib.Core.Path.{_≡_, refl, sym, ap, _∙_}
-use Prim.Native.Nat.{ℕ, _+_, _-_, _≤_, _<_}
-use mathlib.Core.Bool.{_&&_, _||_, not, true, cond}
-use mathlib.Core.List.{List, _∷_, _++_}
-use lib.ListN.{length, take, drop, getD}
-use Rattle.host.specs.declared.Held.{Held}
+use Prim.Native.Nat.{ℕ, _+_, _-_, _≤_}
+use lib.ListN.{length, take}
 use Rattle.lists.specs.Lists.{keep}
 use Rattle.host.specs.State.{noHeld}
 use Rattle.host.specs.Calls.{due}
-use Rattle.lists.proofs.Loops.{keep-yes, keep-no, count-yes, keep-grows}
+use Rattle.lists.proofs.Loops.{keep-no, count-yes}
 use Rattle.host.proofs.ticking.count_due.Statement.{statement}
 use Rattle.host.proofs.ticking.count_due.Tie as tie
 

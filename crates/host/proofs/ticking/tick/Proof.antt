@@ -1,6 +1,6 @@
 -- A refusal keeps the state and the lent list; else the accepted part has all three. Assumes nothing.
 use borrow.Author.Needs.{needs}
-use mathlib.Core.Path.{_≡_, refl, sym, ap, _∙_}
+use mathlib.Core.Path.{_≡_, sym, ap, _∙_}
 use lib.ListN.{length}
 use Rattle.host.specs.Calls.{number, refusalOf, tickRefusal}
 use Rattle.host.proofs.Numbers.{kept, tick-refused}

@@ -1,6 +1,5 @@
 -- The pass over the history has each part of the new state and of the answer. Assumes nothing.
 use borrow.Author.Needs.{needs}
-use mathlib.Core.Path.{_≡_, refl, sym, ap, _∙_}
 use lib.ListN.{length}
 use Rattle.host.proofs.Facts.{tick-is}
 use Rattle.host.proofs.ticking.tick_accepted.Statement.{statement}

@@ -1,15 +1,14 @@
 -- The chain of checks is the order of checks. Assumes nothing.
 use borrow.Author.Needs.{needs}
 use native.Mathlib.Omega.{arith}
-use mathlib.Core.Path.{_≡_, refl, sym, ap, _∙_}
-use mathlib.Core.Bool.{Bool, not, _&&_}
+use mathlib.Core.Path.{refl, ap}
+use mathlib.Core.Bool.{not}
 use lib.ListN.{drop}
 use Prim.Native.Nat.{ℕ, _*_}
 use Rattle.lists.proofs.TestLaws.{or-step}
 use Rattle.host.specs.Calls.{tickTests}
 use Rattle.host.proofs.Facts.{sound-is, past-sound}
-use Rattle.network.proofs.Ranges.{ranges}
-use lib.Dec.{eqb, ltb, leb}
+use lib.Dec.{ltb}
 use Rattle.host.proofs.ticking.tick_checks.Statement.{statement}
 use Rattle.host.proofs.ticking.tick_checks.Tie as tie
 
