@@ -7,7 +7,7 @@ use native.Mathlib.Omega.{arith}
 use borrow.Author.Tests.{eq-eqb, ne-eqb, eqb-true, eqb-false}
 use lib.Dec.{eqb}
 use Rattle.lists.specs.Tests.{firstOf}
-use Rattle.lists.proofs.TestLaws.{Numbered, NonePass, none-pass}
+use Rattle.lists.proofs.TestLaws.{numbered, NonePass, none-pass}
 use Rattle.fields.specs.Faults.{fault, verdict, first}
 use Rattle.fields.specs.declared.Fault.{Fault}
 use Rattle.fields.specs.declared.Fault.the-variants.{CutShort, WrongTag, WrongLength, WrongValue, LeftOver}
@@ -25,7 +25,7 @@ firstOf-left (c ∷ xs) ys n = go (c .1) n (firstOf-left xs ys)
     go true n rest = refl
     go false n rest = rest n
 
-pub firstOf-right : (xs ys : List (ℕ × Bool)) → Numbered xs → firstOf xs ≡ 0 → firstOf (xs ++ ys) ≡ firstOf ys
+pub firstOf-right : (xs ys : List (ℕ × Bool)) → numbered xs ≡ true → firstOf xs ≡ 0 → firstOf (xs ++ ys) ≡ firstOf ys
 firstOf-right xs ys n e = skip xs (none-pass xs n e)
   where
     skip : (xs : List (ℕ × Bool)) → NonePass xs → firstOf (xs ++ ys) ≡ firstOf ys

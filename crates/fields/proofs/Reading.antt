@@ -33,7 +33,7 @@ pub record HeadIs (bs : List ℕ) (at tag : ℕ) : Type 0 where
 
 pub head-is : (bs : List ℕ) (at tag : ℕ) → firstOf (headChecks bs at tag) ≡ 0 → HeadIs bs at tag
 head-is bs at tag e =
-    let p = none-pass (headChecks bs at tag) (omega arith) e in
+    let p = none-pass (headChecks bs at tag) refl e in
     record {
       room = ltb-false (length bs) (at + 3 + statedAt bs at) (p .0);
       tagged = eqb-true (getD bs at 0) tag (not-false (eqb (getD bs at 0) tag) (p .1 .0));
@@ -52,4 +52,4 @@ module _ (bs : List ℕ) (at tag : ℕ) (v : Verdict) (e : verdict v ≡ firstOf
 
     pub past-head : (n : ℕ) → v ≡ Right → n ≡ firstOf (valueChecks wrongLength wrongValue) → n ≡ firstOf (checks bs at tag wrongLength wrongValue)
     past-head n r g =
-        g ∙ sym (firstOf-right (headChecks bs at tag) (valueChecks wrongLength wrongValue) (omega arith) (sym e ∙ ap verdict r))
+        g ∙ sym (firstOf-right (headChecks bs at tag) (valueChecks wrongLength wrongValue) refl (sym e ∙ ap verdict r))

@@ -51,7 +51,7 @@ record SlotIs (bs : List ℕ) (at : ℕ) (s : Slot) : Type 0 where
 
 slot-is : (bs : List ℕ) (at : ℕ) (s : Slot) → firstOf (slotChecks bs at s) ≡ 0 → SlotIs bs at s
 slot-is bs at s e =
-    let p = none-pass (slotChecks bs at s) (omega arith) e in
+    let p = none-pass (slotChecks bs at s) refl e in
     let x : ℕ = numberAt bs (at + 3) (s .width) in
     let both : (leb (s .least) x && leb x (s .largest)) ≡ true = not-false _ (p .1 .1 .1 .0) in
     record {

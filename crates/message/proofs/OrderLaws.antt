@@ -37,7 +37,7 @@ module _ (bs : List ℕ) (small : Bytes bs) (at : ℕ) (c : firstOf (orderChecks
 
   value-right : wrongValue kind share ≡ false
   value-right =
-      let p = none-pass (orderChecks bs at) (omega arith) c in
+      let p = none-pass (orderChecks bs at) refl c in
       let e : at + 3 + 5 ≡ at + 8 = omega arith in
       rw e (p .1 .1 .1 .0)
 
@@ -45,10 +45,10 @@ module _ (bs : List ℕ) (small : Bytes bs) (at : ℕ) (c : firstOf (orderChecks
   is-kind = right-kind kind share value-right
 
   size-is : statedAt bs at ≡ sizeOf kind
-  size-is = of-size kind is-kind (statedAt bs at) (none-pass (orderChecks bs at) (omega arith) c .1 .1 .0)
+  size-is = of-size kind is-kind (statedAt bs at) (none-pass (orderChecks bs at) refl c .1 .1 .0)
 
   head : HeadIs bs at 4
-  head = let p = none-pass (orderChecks bs at) (omega arith) c in head-is bs at 4 (simp (p .0, p .1 .0))
+  head = let p = none-pass (orderChecks bs at) refl c in head-is bs at 4 (simp (p .0, p .1 .0))
 
   bytes-by : (b : Bool) → statedAt bs at ≡ cond b 6 5 → be 1 kind ++ (be 4 image ++ cond b (be 1 share) []) ≡ part bs (at + 3) (cond b 6 5)
   bytes-by b s =

@@ -80,7 +80,7 @@ module _ (bs : List ℕ) (at : ℕ) where
 
   module _ (order : firstOf (orderChecks bs at) ≡ 0) where
     pub order-room : at + 3 + statedAt bs at ≤ length bs
-    order-room = ltb-false (length bs) stop (none-pass (orderChecks bs at) (omega arith) order .0)
+    order-room = ltb-false (length bs) stop (none-pass (orderChecks bs at) refl order .0)
 
     past-order : first (ending bs at) ≡ first ((stop, no-more) ∷ [])
     past-order = first-right at (orderChecks bs at) ((stop, no-more) ∷ []) Right (sym order) refl
@@ -118,7 +118,7 @@ pub record ReadIs (rules : ℕ) (bs : List ℕ) (f : Found) : Type 0 where
 pub read-is : (rules : ℕ) (bs : List ℕ) (f : Found) → readOf rules bs ≡ (0, f) → ReadIs rules bs f
 read-is rules bs f e =
     let zero : readRefusal rules bs ≡ 0 = ap (λ (a : ℕ × Found). a .0) e in
-    let p = none-pass ((23, not (isRules rules)) ∷ (30, not (eqb (first (messageFields rules bs) .0) 0)) ∷ []) (omega arith) zero in
+    let p = none-pass ((23, not (isRules rules)) ∷ (30, not (eqb (first (messageFields rules bs) .0) 0)) ∷ []) refl zero in
     record {
       rules-are = not-false (isRules rules) (p .0);
       clear = first-clear (messageFields rules bs) (eqb-true (first (messageFields rules bs) .0) 0 (not-false _ (p .1 .0)));
@@ -135,7 +135,7 @@ pub read-end : (rules : ℕ) (bs : List ℕ) (f : Found) → ReadIs rules bs f �
 read-end rules bs f r =
     let at : ℕ = orderPlace rules in
     let c = clear-right (slotFields bs 0 (slots rules)) (ending bs at) (r .clear) in
-    let q = none-pass (no-more bs at) (omega arith) (c .1 .0) in
+    let q = none-pass (no-more bs at) refl (c .1 .0) in
     record {
       order = c .0;
       whole = le-antisymm (order-room bs at (c .0)) (ltb-false (stop bs at) (length bs) (q .0));
