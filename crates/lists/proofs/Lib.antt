@@ -5,5 +5,6 @@ pub mod SearchLaws
 pub mod CountLaws
 pub mod Loops
 pub mod Places
+pub mod Listing
 pub mod Order
 pub mod ByteLaws
