@@ -27,12 +27,12 @@ answered bs = (readRefusal bs, cond (eqb (readRefusal bs) 32) (firstOutside bs) 
 abbrev pub nothing : Schedule
 nothing =
     record {
-      plan = record { hosts = 0; faulty_hosts = 0; link_count = 0; faulty_links = 0; delay = 0; skew = 0; links = replicate 12 noLink };
+      plan = record { hosts = 0; «faulty_hosts» = 0; «link_count» = 0; «faulty_links» = 0; delay = 0; skew = 0; links = replicate 12 noLink };
       bounds = record { d = 0; first = record { bound = 0; window = 0 }; second = record { bound = 0; window = 0 } };
       faults = record { hosts = 0; links = 0 };
       offsets = replicate 8 0;
       end = record { 0 = 0 };
-      start_count = 0;
+      «start_count» = 0;
       starts = replicate 16 noStart;
       delays = replicate 384 0;
     }

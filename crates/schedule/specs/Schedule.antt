@@ -15,7 +15,7 @@ use Rattle.network.specs.declared.Plan.{Plan}
 use Rattle.network.specs.declared.Faults.{Faults}
 use Rattle.schedule.specs.declared.Start.{Start}
 use Rattle.schedule.specs.declared.Schedule.{Schedule}
-use Rattle.schedule.specs.Shape.{records, links, starts, hosts, value}
+use Rattle.schedule.specs.Shape.{place, records, links, starts, hosts, value}
 
 -- ---- the plan: record 0, and the links from record 1 on
 
@@ -34,9 +34,9 @@ unfoldable pub planOf : List ℕ → Plan
 planOf bs =
     record {
       hosts = hosts bs;
-      faulty_hosts = getD bs 4 0;
-      link_count = links bs;
-      faulty_links = getD bs 5 0;
+      «faulty_hosts» = getD bs 4 0;
+      «link_count» = links bs;
+      «faulty_links» = getD bs 5 0;
       delay = getD bs 6 0;
       skew = getD bs 7 0;
       links = linksOf bs (links bs);
@@ -78,7 +78,7 @@ copyAt bs at = copyOf (getD bs at 0) (getD bs (at + 1) 0) (getD bs (at + 2) 0)
 
 -- "A copy without a fate takes 1 tick": the delay of each copy by the k fates from a record on
 abbrev pub delayOf : List ℕ → ℕ → ℕ → ℕ → ℕ
-delayOf bs first k copy = lastOf k (λ i. eqb (copyAt bs (value bs (first + i))) copy) (λ i. getD bs (value bs (first + i) + 3) 0) 1
+delayOf bs first k copy = lastOf k (λ i. eqb (copyAt bs (value bs (first + i))) copy) (λ i. getD bs (place bs (first + i) + 6) 0) 1
 
 abbrev pub delaysOf : List ℕ → ℕ → ℕ → List ℕ
 delaysOf bs first k = listed 384 (delayOf bs first k)
@@ -105,7 +105,7 @@ scheduleOf bs =
       faults = faultsOf bs;
       offsets = offsetsAt bs (value bs (links bs + 2)) (hosts bs);
       end = endOf bs;
-      start_count = starts bs;
+      «start_count» = starts bs;
       starts = startsOf bs (firstStart bs) (starts bs);
       delays = delaysOf bs (firstFate bs) (records bs - firstFate bs);
     }

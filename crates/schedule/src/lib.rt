@@ -59,7 +59,7 @@ pub fn read(bytes: &[u8]) -> Found
     if bytes.len() > LONGEST {
         return refused(Answer::NotASchedule);
     }
-    let t = shape::tally(bytes);
+    let t = shape::tally_of(bytes);
     if !shape::is_schedule(bytes, t) {
         return refused(Answer::NotASchedule);
     }

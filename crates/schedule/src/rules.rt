@@ -13,6 +13,7 @@ ghost use lib.Dec.{leb};
 ghost use lib.ListN.{getD};
 ghost use Rattle.lists.specs.Searches.{some, least};
 ghost use Rattle.network.specs.Network as net;
+ghost use Rattle.schedule.specs.Schedule.{noLink};
 ghost use Rattle.schedule.specs.Rules.{faultsWithin, offsetsOut, startOut, fateOut, outAt, outside};
 ghost use Rattle.schedule.specs.Inside.{Run, InNumbers};
 
@@ -111,16 +112,17 @@ fn fate_out(bytes: &[u8], before: usize, at: usize, plan: Plan, faults: Faults) 
 fn survives(plan: Plan, faults: Faults, link: u8) -> bool
     ensures { λ r. ⌜ r ≡ net.survives plan faults link ⌝ }
 {
-    let ends = link_of(plan, link);
+    let links = plan.links;
+    let ends = link_of(links, link);
     !network::is_in(faults.links, link)
         & !network::is_in(faults.hosts, ends.a)
         & !network::is_in(faults.hosts, ends.b)
 }
 
-// A link of the plan, and the zero link of a number that it has no place for.
-fn link_of(plan: Plan, link: u8) -> Link
-    ensures { λ r. ⌜ r ≡ net.link plan link ⌝ }
+// A link by its number, and the zero link of a number that has no place.
+fn link_of(links: [Link; 12], link: u8) -> Link
+    ensures { λ r. ⌜ r ≡ getD links link noLink ⌝ }
 {
     let at = link as usize;
-    if at < 12 { plan.links[at] } else { NO_LINK }
+    if at < 12 { links[at] } else { NO_LINK }
 }

@@ -16,7 +16,7 @@ pub(crate) struct Tally {
     pub end: usize,
 }
 
-pub(crate) fn tally(bytes: &[u8]) -> Tally
+pub(crate) fn tally_of(bytes: &[u8]) -> Tally
     requires { ⌜ length (now bytes) ≤ 8192 ⌝ }
     ensures { λ r. ⌜ Counted (now (bytes .entry)) r ⌝ }
 {

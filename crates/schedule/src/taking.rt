@@ -11,7 +11,7 @@ use network::Plan;
 use orders::Order;
 ghost use mathlib.Core.Path.{_≡_};
 ghost use Prim.Native.Nat.{_+_, _≤_};
-ghost use lib.ListN.{length};
+ghost use lib.ListN.{set};
 ghost use Rattle.schedule.specs.Shape.{place, records, value};
 ghost use Rattle.schedule.specs.Schedule.{linkAt, linksOf, planOf, faultsAt, offsetsAt, tickAt, startAt, startsOf, copyAt, delaysOf, scheduleOf};
 ghost use Rattle.schedule.specs.Inside.{Shaped, Judged, Run};
@@ -170,14 +170,20 @@ fn delays_of(bytes: &[u8], from: usize, first: usize, count: usize) -> [u8; 384]
     let mut at = from;
     let mut i: usize = 0;
     while i < count {
-        let copy = copy_at(bytes, at + 3);
-        if copy < 384 {
-            delays[copy] = fields::byte_at(bytes, at + 6);
-        }
+        set_delay(&mut delays, copy_at(bytes, at + 3), fields::byte_at(bytes, at + 6));
         at = next(bytes, at);
         i += 1;
     }
     delays
+}
+
+// One delay set; a number past the last copy is no copy.
+fn set_delay(delays: &mut [u8; 384], copy: usize, delay: u8)
+    ensures { λ _. ⌜ now (delays .exit) ≡ set (now (delays .entry)) copy delay ⌝ }
+{
+    if copy < 384 {
+        delays[copy] = delay;
+    }
 }
 
 // The copy of the fate whose value begins at a place.

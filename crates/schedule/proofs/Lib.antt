@@ -1,0 +1,3 @@
+-- The laws of schedules, for the proofs here and for callers.
+pub mod Walks
+pub mod Tallies
