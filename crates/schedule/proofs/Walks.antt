@@ -2,7 +2,7 @@
 use mathlib.Core.Path.{_≡_, refl, sym, ap, _∙_}
 use mathlib.Core.Bool.{Bool, true, false}
 use mathlib.Core.List.{List}
-use Prim.Native.Nat.{ℕ, _+_, _≤_, _<_}
+use Prim.Native.Nat.{ℕ, zero, suc, _+_, _-_, _≤_, _<_}
 use native.Mathlib.Nat.{add-assoc, le-antisymm}
 use native.Mathlib.Numerals.{add-one}
 use native.Mathlib.Omega.{arith}
@@ -34,6 +34,12 @@ module _ (bs : List ℕ) where
   pub place-in : (k : ℕ) → k < records bs → place bs k < length bs
   unfolding records
   place-in k h = leb-false (length bs) (place bs k) (before-least (length bs) (λ k. leb (length bs) (place bs k)) k h)
+
+  -- the record before begins no later
+  pub place-before : (k : ℕ) → place bs (k - 1) ≤ place bs k
+  unfolding place
+  place-before zero = omega arith
+  place-before (suc k) = let q : suc k - 1 ≡ k = omega arith in let e : place bs (suc k - 1) ≡ place bs k = ap (place bs) q in omega arith
 
   pub in-run : (first count i : ℕ) → Run bs first count → i < count → place bs (first + i) < 8192
   in-run first count i r h = let p = place-in (first + i) (omega (arith, r .there)) in omega (arith, r .short)

@@ -69,23 +69,30 @@ pub(crate) fn schedule_of(bytes: &[u8], t: Tally, plan: Plan, bounds: Bounds) ->
     requires { ⌜ Judged (now bytes) t plan bounds ⌝ }
     ensures { λ r. ⌜ r ≡ scheduleOf (now (bytes .entry)) ⌝ }
 {
-    let faulty = place_of(bytes, t.links + 1);
-    let offsets = next(bytes, faulty);
-    let end = next(bytes, offsets);
-    let start = next(bytes, end);
-    let fate = place_of(bytes, t.links + t.starts + 4);
-    let starts = starts_of(bytes, start, t.links + 4, t.starts);
-    let fates = t.records - (t.links + t.starts + 4);
+    let faulty = value_of(bytes, t.links + 1);
+    let offsets = value_of(bytes, t.links + 2);
+    let end = value_of(bytes, t.links + 3);
+    let fate = t.links + t.starts + 4;
+    let starts = starts_of(bytes, t.links + 4, t.starts);
+    let delays = delays_of(bytes, fate, t.records - fate);
     Schedule {
         plan,
         bounds,
-        faults: faults_at(bytes, faulty + 3),
-        offsets: offsets_at(bytes, offsets + 3, plan.hosts),
-        end: tick_at(bytes, end + 3),
+        faults: faults_at(bytes, faulty),
+        offsets: offsets_at(bytes, offsets, plan.hosts),
+        end: tick_at(bytes, end),
         start_count: t.starts,
         starts,
-        delays: delays_of(bytes, fate, t.links + t.starts + 4, fates),
+        delays,
     }
+}
+
+// Where the value of record k begins.
+fn value_of(bytes: &[u8], k: usize) -> usize
+    requires { ⌜ Run (now bytes) k 1 ⌝ }
+    ensures { λ r. ⌜ (r ≡ value (now (bytes .entry)) k) × (r ≤ 8195) ⌝ }
+{
+    place_of(bytes, k) + 3
 }
 
 // Where record k begins.
@@ -132,13 +139,13 @@ pub(crate) fn tick_at(bytes: &[u8], at: usize) -> Tick
     Tick(fields::value_at(bytes, at, 2))
 }
 
-// The starts from a place on, which is where record `first` begins.
-fn starts_of(bytes: &[u8], from: usize, first: usize, count: usize) -> [Start; 16]
-    requires { ⌜ (count ≤ 16) × ((from ≡ place (now bytes) first) × Run (now bytes) first count) ⌝ }
+// The starts from record `first` on.
+fn starts_of(bytes: &[u8], first: usize, count: usize) -> [Start; 16]
+    requires { ⌜ (count ≤ 16) × Run (now bytes) first count ⌝ }
     ensures { λ r. ⌜ r ≡ startsOf (now (bytes .entry)) first count ⌝ }
 {
     let mut starts = [NO_START; 16];
-    let mut at = from;
+    let mut at = place_of(bytes, first);
     let mut i: usize = 0;
     while i < count {
         starts[i] = start_at(bytes, at + 3);
@@ -161,13 +168,13 @@ fn start_at(bytes: &[u8], at: usize) -> Start
     }
 }
 
-// The delay of each copy by the fates from a place on, which is where record `first` begins.
-fn delays_of(bytes: &[u8], from: usize, first: usize, count: usize) -> [u8; 384]
-    requires { ⌜ (from ≡ place (now bytes) first) × Run (now bytes) first count ⌝ }
+// The delay of each copy by the fates from record `first` on.
+fn delays_of(bytes: &[u8], first: usize, count: usize) -> [u8; 384]
+    requires { ⌜ Run (now bytes) first count ⌝ }
     ensures { λ r. ⌜ r ≡ delaysOf (now (bytes .entry)) first count ⌝ }
 {
     let mut delays = [1u8; 384];
-    let mut at = from;
+    let mut at = place_of(bytes, first);
     let mut i: usize = 0;
     while i < count {
         set_delay(&mut delays, copy_at(bytes, at + 3), fields::byte_at(bytes, at + 6));
@@ -178,10 +185,10 @@ fn delays_of(bytes: &[u8], from: usize, first: usize, count: usize) -> [u8; 384]
 }
 
 // One delay set; a number past the last copy is no copy.
-fn set_delay(delays: &mut [u8; 384], copy: usize, delay: u8)
+fn set_delay(delays: &mut [u8], copy: usize, delay: u8)
     ensures { λ _. ⌜ now (delays .exit) ≡ set (now (delays .entry)) copy delay ⌝ }
 {
-    if copy < 384 {
+    if copy < delays.len() {
         delays[copy] = delay;
     }
 }

@@ -1,61 +1,52 @@
+-- By cases on the tag. Assumes nothing.
 use borrow.Author.Needs.{needs}
+use mathlib.Core.Path.{sym, _∙_}
+use borrow.Author.Tests.{ne-eqb}
+use Rattle.schedule.specs.Rules.{outAt}
 use Rattle.schedule.proofs.rules.is_out.Statement.{statement}
 use Rattle.schedule.proofs.rules.is_out.Tie as tie
-use Rattle.schedule.proofs.rules.is_out.Reads as reads
-use Rattle.schedule.proofs.rules.is_out.Lts as lts
-use Rattle.fields.proofs.byte_at.Reads as byte-at-reads
-use Rattle.schedule.proofs.rules.fate_out.Reads as fate-out-reads
-use Rattle.schedule.proofs.rules.faults_within.Reads as faults-within-reads
-use Rattle.schedule.proofs.rules.offsets_out.Reads as offsets-out-reads
-use Rattle.schedule.proofs.rules.start_out.Reads as start-out-reads
 
--- src/rules.rt:49:9
 byte-at-requires : tie.Need-byte-at-requires
 byte-at-requires c κs = search needs
 
--- src/rules.rt:51:16
 faults-within-requires : tie.Need-faults-within-requires
 faults-within-requires c κs = search needs
 
--- src/rules.rt:52:34
 add-offsets-out : tie.Need-add-offsets-out
 add-offsets-out c = search needs
 
--- src/rules.rt:52:15
 offsets-out-requires : tie.Need-offsets-out-requires
 offsets-out-requires c κs = search needs
 
--- src/rules.rt:54:15
 start-out-requires : tie.Need-start-out-requires
 start-out-requires c κs = search needs
 
--- src/rules.rt:55:15
 fate-out-requires : tie.Need-fate-out-requires
 fate-out-requires c κs = search needs
 
--- src/rules.rt:45:1
 returns : tie.Need-returns
-returns c = ?
+unfolding outAt
+returns c = simp (c .faults-within .ensures, sym (c .before .before .byte-at .ensures) ∙ c .before .match .keys1)
 
--- src/rules.rt:45:1
 returns-2 : tie.Need-returns-2
-returns-2 c = ?
+unfolding outAt
+returns-2 c = simp (c .offsets-out .ensures, sym (c .before .before .byte-at .ensures) ∙ c .before .match .keys2)
 
--- src/rules.rt:45:1
 returns-3 : tie.Need-returns-3
-returns-3 c = ?
+unfolding outAt
+returns-3 c = simp (sym (c .before .before .byte-at .ensures) ∙ c .before .match .keys3)
 
--- src/rules.rt:45:1
 returns-4 : tie.Need-returns-4
-returns-4 c = ?
+unfolding outAt
+returns-4 c = simp (c .start-out .ensures, sym (c .before .before .byte-at .ensures) ∙ c .before .match .keys4)
 
--- src/rules.rt:45:1
 returns-5 : tie.Need-returns-5
-returns-5 c = ?
+unfolding outAt
+returns-5 c = simp (c .fate-out .ensures, sym (c .before .before .byte-at .ensures) ∙ c .before .match .keys5)
 
--- src/rules.rt:45:1
 returns-6 : tie.Need-returns-6
-returns-6 c = ?
+unfolding outAt
+returns-6 c = rw (← c .before .byte-at .ensures) (simp (ne-eqb _ _ (c .match .rest .1), ne-eqb _ _ (c .match .rest .0 .1), ne-eqb _ _ (c .match .rest .0 .0 .1), ne-eqb _ _ (c .match .rest .0 .0 .0 .1), ne-eqb _ _ (c .match .rest .0 .0 .0 .0 .1)))
 
 pub is-out-spec : {M : Type 1} → statement M
 is-out-spec =

@@ -1,4 +1,5 @@
 -- The chain of tests is the list of tests, and the bytes are not too long. Assumes nothing.
+use native.Mathlib.Omega.{arith}
 use mathlib.Core.Path.{_≡_, sym, _∙_}
 use mathlib.Core.Bool.{true}
 use borrow.Author.Tests.{le-leb}
@@ -6,7 +7,6 @@ use denote.Ref.{now}
 use Rattle.lists.proofs.TestLaws.{all-chain}
 use Rattle.schedule.specs.Shape.{isSchedule}
 use Rattle.schedule.proofs.Tallies.{small}
-use native.Mathlib.Omega.{arith}
 use Rattle.schedule.proofs.shape.is_schedule.Statement.{statement}
 use Rattle.schedule.proofs.shape.is_schedule.Tie as tie
 

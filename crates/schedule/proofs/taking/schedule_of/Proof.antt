@@ -1,102 +1,74 @@
+use borrow.Author.Needs.{needs}
 use Rattle.schedule.proofs.taking.schedule_of.Statement.{statement}
 use Rattle.schedule.proofs.taking.schedule_of.Tie as tie
 use Rattle.schedule.proofs.taking.schedule_of.Reads as reads
 use Rattle.schedule.proofs.taking.schedule_of.Lts as lts
-use Rattle.schedule.proofs.shape.next.Reads as next-reads
 use Rattle.schedule.proofs.taking.delays_of.Reads as delays-of-reads
 use Rattle.schedule.proofs.taking.faults_at.Reads as faults-at-reads
 use Rattle.schedule.proofs.taking.offsets_at.Reads as offsets-at-reads
-use Rattle.schedule.proofs.taking.place_of.Reads as place-of-reads
 use Rattle.schedule.proofs.taking.starts_of.Reads as starts-of-reads
 use Rattle.schedule.proofs.taking.tick_at.Reads as tick-at-reads
+use Rattle.schedule.proofs.taking.value_of.Reads as value-of-reads
 
 -- src/taking.rt:72:34
-add-place-of : tie.Need-add-place-of
-add-place-of c = ?
+add-value-of : tie.Need-add-value-of
+add-value-of c = ?
 
 -- src/taking.rt:72:9
-place-of-requires : tie.Need-place-of-requires
-place-of-requires c κs = ?
+value-of-requires : tie.Need-value-of-requires
+value-of-requires c κs = ?
+
+-- src/taking.rt:73:35
+add-value-of-2 : tie.Need-add-value-of-2
+add-value-of-2 c = ?
 
 -- src/taking.rt:73:9
-next-requires : tie.Need-next-requires
-next-requires c κs = ?
+value-of-requires-2 : tie.Need-value-of-requires-2
+value-of-requires-2 c κs = ?
+
+-- src/taking.rt:74:31
+add-value-of-3 : tie.Need-add-value-of-3
+add-value-of-3 c = ?
 
 -- src/taking.rt:74:9
-next-requires-2 : tie.Need-next-requires-2
-next-requires-2 c κs = ?
+value-of-requires-3 : tie.Need-value-of-requires-3
+value-of-requires-3 c κs = ?
 
--- src/taking.rt:75:9
-next-requires-3 : tie.Need-next-requires-3
-next-requires-3 c κs = ?
+-- src/taking.rt:75:16
+add-fate : tie.Need-add-fate
+add-fate c = ?
 
--- src/taking.rt:76:32
-add-place-of-2 : tie.Need-add-place-of-2
-add-place-of-2 c = ?
+-- src/taking.rt:75:16
+add-fate-2 : tie.Need-add-fate-2
+add-fate-2 c = ?
 
--- src/taking.rt:76:32
-add-place-of-3 : tie.Need-add-place-of-3
-add-place-of-3 c = ?
-
--- src/taking.rt:76:9
-place-of-requires-2 : tie.Need-place-of-requires-2
-place-of-requires-2 c κs = ?
-
--- src/taking.rt:77:42
+-- src/taking.rt:76:35
 add-starts-of : tie.Need-add-starts-of
 add-starts-of c = ?
 
--- src/taking.rt:77:9
+-- src/taking.rt:76:9
 starts-of-requires : tie.Need-starts-of-requires
 starts-of-requires c κs = ?
 
--- src/taking.rt:78:30
-add-fates : tie.Need-add-fates
-add-fates c = ?
+-- src/taking.rt:77:41
+sub-delays-of : tie.Need-sub-delays-of
+sub-delays-of c = ?
 
--- src/taking.rt:78:30
-add-fates-2 : tie.Need-add-fates-2
-add-fates-2 c = ?
+-- src/taking.rt:77:9
+delays-of-requires : tie.Need-delays-of-requires
+delays-of-requires c κs = ?
 
--- src/taking.rt:78:17
-sub-fates : tie.Need-sub-fates
-sub-fates c = ?
-
--- src/taking.rt:82:34
-add-faults-at : tie.Need-add-faults-at
-add-faults-at c = ?
-
--- src/taking.rt:82:17
+-- src/taking.rt:81:17
 faults-at-requires : tie.Need-faults-at-requires
-faults-at-requires c κs = ?
+faults-at-requires c κs = search needs
 
--- src/taking.rt:83:36
-add-offsets-at : tie.Need-add-offsets-at
-add-offsets-at c = ?
-
--- src/taking.rt:83:18
+-- src/taking.rt:82:18
 offsets-at-requires : tie.Need-offsets-at-requires
 offsets-at-requires c κs = ?
 
--- src/taking.rt:84:29
-add-tick-at : tie.Need-add-tick-at
-add-tick-at c = ?
-
--- src/taking.rt:84:14
+-- src/taking.rt:83:14
 tick-at-requires : tie.Need-tick-at-requires
-tick-at-requires c κs = ?
-
--- src/taking.rt:87:40
-add-delays-of : tie.Need-add-delays-of
-add-delays-of c = ?
-
--- src/taking.rt:87:40
-add-delays-of-2 : tie.Need-add-delays-of-2
-add-delays-of-2 c = ?
-
--- src/taking.rt:87:17
-delays-of-requires : tie.Need-delays-of-requires
-delays-of-requires c κs = ?
+tick-at-requires c κs = search needs
 
 -- src/taking.rt:68:1
 returns : tie.Need-returns
@@ -106,26 +78,19 @@ pub schedule-of-spec : {M : Type 1} → statement M
 schedule-of-spec =
     tie.close
     (tie.spec
-    add-place-of
-    place-of-requires
-    next-requires
-    next-requires-2
-    next-requires-3
-    add-place-of-2
-    add-place-of-3
-    place-of-requires-2
+    add-value-of
+    value-of-requires
+    add-value-of-2
+    value-of-requires-2
+    add-value-of-3
+    value-of-requires-3
+    add-fate
+    add-fate-2
     add-starts-of
     starts-of-requires
-    add-fates
-    add-fates-2
-    sub-fates
-    add-faults-at
-    faults-at-requires
-    add-offsets-at
-    offsets-at-requires
-    add-tick-at
-    tick-at-requires
-    add-delays-of
-    add-delays-of-2
+    sub-delays-of
     delays-of-requires
+    faults-at-requires
+    offsets-at-requires
+    tick-at-requires
     returns)
