@@ -1,11 +1,11 @@
 -- Counting the records: what the counts are after each turn, and what they are at the end. Assumes nothing.
-use mathlib.Core.Path.{_≡_, refl, sym, ap, ap₂, _∙_}
-use mathlib.Core.Bool.{Bool, true, cond}
+use mathlib.Core.Path.{_≡_, sym, ap, ap₂, _∙_}
+use mathlib.Core.Bool.{true, cond}
 use mathlib.Core.List.{List}
 use Prim.Native.Nat.{ℕ, _+_, _≤_, _<_}
 use native.Mathlib.Omega.{arith}
 use borrow.Author.Count.{below-more}
-use borrow.Author.Tests.{leb-true, eqb-true}
+use borrow.Author.Tests.{leb-true}
 use lib.Dec.{eqb}
 use lib.ListN.{length, getD}
 use Rattle.lists.specs.Searches.{count, each}
@@ -13,7 +13,7 @@ use Rattle.lists.proofs.CountLaws.{count-start, count-next, count-le}
 use Rattle.lists.proofs.SearchLaws.{least-bound}
 use Rattle.lists.proofs.TestLaws.{all-each}
 use Rattle.schedule.specs.declared.shape.Tally.{Tally}
-use Rattle.schedule.specs.Shape.{place, records, tagged, links, starts, hosts, right, isSchedule}
+use Rattle.schedule.specs.Shape.{place, records, tagged, links, starts, right, isSchedule}
 use Rattle.schedule.specs.Inside.{Next, Counted, Shaped, Run}
 use Rattle.schedule.proofs.Walks.{place-start, place-step, all-met}
 

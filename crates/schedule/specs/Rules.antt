@@ -1,6 +1,6 @@
 -- The rules of a schedule: refusal 32 (01, "Schedules and the replay program"). Each speaks of a plan p, a fault set f and an end tick e, and of a
 -- record by the places where it and the one before it begin. Assumes nothing.
-use mathlib.Core.Bool.{Bool, false, not, cond, _&&_, _||_}
+use mathlib.Core.Bool.{Bool, false, not, cond, _&&_}
 use mathlib.Core.List.{List, [], _∷_}
 use Prim.Native.Nat.{ℕ, _+_, _-_, _^_}
 use lib.Dec.{leb, ltb, eqb}

@@ -13,8 +13,7 @@ use orders::Order;
 ghost use mathlib.Core.Path.{_≡_};
 ghost use Rattle.schedule.specs.Calls.{says, answered, scheduleRead, nothing};
 ghost use Rattle.schedule.specs.Inside.{Shaped, Judged};
-ghost use Rattle.schedule.specs.Schedule.{planOf};
-ghost use Rattle.network.specs.Network.{planRefusal, worst, bounds};
+ghost use Rattle.network.specs.Network.{bounds};
 use crate::shape::Tally;
 
 // An order started on a host at a tick.

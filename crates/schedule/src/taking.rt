@@ -177,7 +177,11 @@ fn delays_of(bytes: &[u8], first: usize, count: usize) -> [u8; 384]
     let mut at = place_of(bytes, first);
     let mut i: usize = 0;
     while i < count {
-        set_delay(&mut delays, copy_at(bytes, at + 3), fields::byte_at(bytes, at + 6));
+        set_delay(
+            &mut delays,
+            copy_at(bytes, at + 3),
+            fields::byte_at(bytes, at + 6),
+        );
         at = next(bytes, at);
         i += 1;
     }

@@ -1,67 +1,54 @@
+-- What planning says decides. Assumes nothing.
+use borrow.Author.Needs.{needs}
+use mathlib.Core.Path.{refl, sym, ap, _∙_}
+use denote.Ref.{now}
+use Rattle.network.specs.Network.{says}
+use Rattle.schedule.specs.declared.Answer.the-variants.{OutOfRange, BadLink, Parted}
+use Rattle.schedule.proofs.Verdicts.{unplanned, judged, right-unplanned}
 use Rattle.schedule.proofs.planned.Statement.{statement}
 use Rattle.schedule.proofs.planned.Tie as tie
-use Rattle.schedule.proofs.planned.Reads as reads
-use Rattle.schedule.proofs.planned.Lts as lts
-use Rattle.network.proofs.planning.plan.Reads as plan-reads
-use Rattle.schedule.proofs.refused.Reads as refused-reads
-use Rattle.schedule.proofs.ruled.Reads as ruled-reads
-use Rattle.schedule.proofs.taking.plan_of.Reads as plan-of-reads
 
--- src/lib.rt:74:9
 plan-of-requires : tie.Need-plan-of-requires
-plan-of-requires c κs = ?
+plan-of-requires c κs = c .before .pre
 
--- src/lib.rt:75:9
 plan-requires : tie.Need-plan-requires
-plan-requires c κs = ?
+plan-requires c κs = search needs
 
--- src/lib.rt:77:40
 enum-told : tie.Need-enum-told
-enum-told c = ?
+enum-told c = search needs
 
--- src/lib.rt:77:32
 refused-requires : tie.Need-refused-requires
-refused-requires c κs = ?
+refused-requires c κs = search needs
 
--- src/lib.rt:78:37
 enum-told-2 : tie.Need-enum-told-2
-enum-told-2 c = ?
+enum-told-2 c = search needs
 
--- src/lib.rt:78:29
 refused-requires-2 : tie.Need-refused-requires-2
-refused-requires-2 c κs = ?
+refused-requires-2 c κs = search needs
 
--- src/lib.rt:79:36
 enum-told-3 : tie.Need-enum-told-3
-enum-told-3 c = ?
+enum-told-3 c = search needs
 
--- src/lib.rt:79:28
 refused-requires-3 : tie.Need-refused-requires-3
-refused-requires-3 c κs = ?
+refused-requires-3 c κs = search needs
 
--- src/lib.rt:80:27
 enum-known-told : tie.Need-enum-known-told
-enum-known-told c = ?
+enum-known-told c = search needs
 
--- src/lib.rt:80:38
 ruled-requires : tie.Need-ruled-requires
-ruled-requires c κs = ?
+ruled-requires c κs = let a = c .before .before .before .before .before .before .args in judged (now (a .bytes)) (a .t) _ _ (c .before .before .before .before .before .before .pre) (c .before .before .before .before .plan-of .ensures) (sym (ap says (c .before .told .given .1)) ∙ c .before .before .before .plan .ensures)
 
--- src/lib.rt:70:1
 returns : tie.Need-returns
-returns c = ?
+returns c = let a = c .before .before .before .before .before .before .args in right-unplanned (now (a .bytes)) (c .before .before .before .before .before .before .pre .shape) (c .refused .result) OutOfRange 1 (c .refused .ensures) refl refl refl (unplanned _ _ 1 (c .before .before .before .before .plan-of .ensures) (sym (ap says (c .before .enum-told .given .1)) ∙ c .before .before .before .plan .ensures))
 
--- src/lib.rt:70:1
 returns-2 : tie.Need-returns-2
-returns-2 c = ?
+returns-2 c = let a = c .before .before .before .before .before .before .args in right-unplanned (now (a .bytes)) (c .before .before .before .before .before .before .pre .shape) (c .refused2 .result) BadLink 2 (c .refused2 .ensures) refl refl refl (unplanned _ _ 2 (c .before .before .before .before .plan-of .ensures) (sym (ap says (c .before .enum-told2 .given .1)) ∙ c .before .before .before .plan .ensures))
 
--- src/lib.rt:70:1
 returns-3 : tie.Need-returns-3
-returns-3 c = ?
+returns-3 c = let a = c .before .before .before .before .before .before .args in right-unplanned (now (a .bytes)) (c .before .before .before .before .before .before .pre .shape) (c .refused3 .result) Parted 3 (c .refused3 .ensures) refl refl refl (unplanned _ _ 3 (c .before .before .before .before .plan-of .ensures) (sym (ap says (c .before .enum-told3 .given .1)) ∙ c .before .before .before .plan .ensures))
 
--- src/lib.rt:70:1
 returns-4 : tie.Need-returns-4
-returns-4 c = ?
+returns-4 c = c .ruled .ensures
 
 pub planned-spec : {M : Type 1} → statement M
 planned-spec =

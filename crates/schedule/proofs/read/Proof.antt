@@ -1,43 +1,37 @@
+-- Too long, then the shape, then what planning says. Assumes nothing.
+use borrow.Author.Needs.{needs}
+use native.Mathlib.Omega.{arith}
+use mathlib.Core.Path.{refl, sym, _∙_}
+use borrow.Author.Tests.{not-true, not-false}
+use denote.Ref.{now}
+use Rattle.schedule.specs.declared.Answer.the-variants.{NotASchedule}
+use Rattle.schedule.proofs.Verdicts.{too-long, right-misshapen}
 use Rattle.schedule.proofs.read.Statement.{statement}
 use Rattle.schedule.proofs.read.Tie as tie
-use Rattle.schedule.proofs.read.Reads as reads
-use Rattle.schedule.proofs.read.Lts as lts
-use Rattle.schedule.proofs.planned.Reads as planned-reads
-use Rattle.schedule.proofs.refused.Reads as refused-reads
-use Rattle.schedule.proofs.shape.is_schedule.Reads as is-schedule-reads
-use Rattle.schedule.proofs.shape.tally_of.Reads as tally-of-reads
 
--- src/lib.rt:60:9
 refused-requires : tie.Need-refused-requires
-refused-requires c κs = ?
+refused-requires c κs = search needs
 
--- src/lib.rt:60:9
 returns : tie.Need-returns
-returns c = ?
+returns c = let bs = now (c .before .before .before .args .bytes) in right-misshapen bs (c .refused .result) NotASchedule (c .refused .ensures) refl (too-long bs (c .before .if1 .taken))
 
--- src/lib.rt:62:9
 tally-of-requires : tie.Need-tally-of-requires
-tally-of-requires c κs = ?
+tally-of-requires c κs = omega arith
 
--- src/lib.rt:63:9
 is-schedule-requires : tie.Need-is-schedule-requires
-is-schedule-requires c κs = ?
+is-schedule-requires c κs = c .tally-of .ensures
 
--- src/lib.rt:64:9
 refused-requires-2 : tie.Need-refused-requires-2
-refused-requires-2 c κs = ?
+refused-requires-2 c κs = search needs
 
--- src/lib.rt:64:9
 returns-2 : tie.Need-returns-2
-returns-2 c = ?
+returns-2 c = let bs = now (c .before .before .before .before .before .before .args .bytes) in right-misshapen bs (c .refused2 .result) NotASchedule (c .refused2 .ensures) refl (sym (c .before .before .is-schedule .ensures) ∙ not-true _ (c .before .if2 .taken))
 
--- src/lib.rt:66:5
 planned-requires : tie.Need-planned-requires
-planned-requires c κs = ?
+planned-requires c κs = record { counted = c .before .before .tally-of .ensures; shape = sym (c .before .is-schedule .ensures) ∙ not-false _ (c .if2 .left) }
 
--- src/lib.rt:56:1
 returns-3 : tie.Need-returns-3
-returns-3 c = ?
+returns-3 c = c .planned .ensures
 
 pub read-spec : {M : Type 1} → statement M
 read-spec =

@@ -1,30 +1,28 @@
+-- The first record outside the rules, or the schedule. Assumes nothing.
+use borrow.Author.Needs.{needs}
+use native.Mathlib.Omega.{arith}
+use mathlib.Core.Path.{sym, ap, _∙_}
+use denote.Ref.{now}
+use Rattle.network.specs.Network.{planRefusal}
+use Rattle.schedule.proofs.Tallies.{run}
+use Rattle.schedule.proofs.Verdicts.{in-numbers, first-is, right-outside, right-accepted}
 use Rattle.schedule.proofs.ruled.Statement.{statement}
 use Rattle.schedule.proofs.ruled.Tie as tie
-use Rattle.schedule.proofs.ruled.Reads as reads
-use Rattle.schedule.proofs.ruled.Lts as lts
-use Rattle.schedule.proofs.refused.Reads as refused-reads
-use Rattle.schedule.proofs.rules.first_outside.Reads as first-outside-reads
-use Rattle.schedule.proofs.taking.schedule_of.Reads as schedule-of-reads
 
--- src/lib.rt:89:9
 schedule-of-requires : tie.Need-schedule-of-requires
-schedule-of-requires c κs = ?
+schedule-of-requires c κs = c .before .pre
 
--- src/lib.rt:92:9
 first-outside-requires : tie.Need-first-outside-requires
-first-outside-requires c κs = ?
+first-outside-requires c κs = let a = c .before .before .before .before .args in (in-numbers (a .plan) (c .before .before .before .before .pre .clear), run (now (a .bytes)) (a .t) 0 (a .t .records) (c .before .before .before .before .pre .shaped) (omega arith))
 
--- src/lib.rt:94:9
 refused-requires : tie.Need-refused-requires
-refused-requires c κs = ?
+refused-requires c κs = search needs
 
--- src/lib.rt:94:9
 returns : tie.Need-returns
-returns c = ?
+returns c = let a = c .before .before .before .before .before .before .before .before .args in let bs = now (a .bytes) in let p = c .before .before .before .before .before .before .before .before .pre in let q = first-is bs (a .t) (a .plan) (a .bounds) (c .before .before .before .before .before .before .schedule-of .result) (c .before .before .before .first-outside .result) p (c .before .before .before .before .before .before .schedule-of .ensures) (c .before .before .before .first-outside .ensures) in right-outside bs (p .shaped .shape) (sym (ap planRefusal (p .plan-is)) ∙ p .clear) (c .refused .result) (c .before .before .before .first-outside .result) (c .refused .ensures) q (omega (arith, p .shaped .counted .records-are))
 
--- src/lib.rt:85:1
 returns-2 : tie.Need-returns-2
-returns-2 c = ?
+returns-2 c = let a = c .before .before .before .before .before .before .before .args in let bs = now (a .bytes) in let p = c .before .before .before .before .before .before .before .pre in let q = first-is bs (a .t) (a .plan) (a .bounds) (c .before .before .before .before .before .schedule-of .result) (c .before .before .first-outside .result) p (c .before .before .before .before .before .schedule-of .ensures) (c .before .before .first-outside .ensures) in right-accepted bs (p .shaped .shape) (sym (ap planRefusal (p .plan-is)) ∙ p .clear) (c .before .before .before .before .before .schedule-of .result) (c .before .before .before .before .before .schedule-of .ensures) (omega (arith, p .shaped .counted .records-are))
 
 pub ruled-spec : {M : Type 1} → statement M
 ruled-spec =

@@ -1,7 +1,6 @@
 -- A shift of 1 is a power of 2; the chain of tests is the list of tests. Assumes nothing.
 use borrow.Author.Needs.{needs}
 use native.Mathlib.Omega.{arith}
-use mathlib.Core.Path.{_≡_, sym, ap, _∙_}
 use Rattle.lists.proofs.TestLaws.{all-chain}
 use Rattle.network.proofs.Bits.{top-is}
 use Rattle.schedule.specs.Rules.{faultsWithin}

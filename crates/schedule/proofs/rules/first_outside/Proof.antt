@@ -1,12 +1,11 @@
 -- No record before k is outside the rules; `at` and `before` are where record k and the one before it begin. Assumes nothing.
 use borrow.Author.Needs.{needs}
 use native.Mathlib.Omega.{arith}
-use mathlib.Core.Path.{_≡_, refl, sym, ap, _∙_}
+use mathlib.Core.Path.{_≡_, sym, ap, _∙_}
 use mathlib.Core.Bool.{false}
 use Prim.Native.Nat.{ℕ, _+_, _≤_, _<_, _-_}
 use borrow.Author.Count.{below-more}
 use denote.Ref.{now}
-use Rattle.lists.specs.Searches.{least}
 use Rattle.lists.proofs.SearchLaws.{least-here, least-none}
 use Rattle.schedule.specs.Shape.{place}
 use Rattle.schedule.specs.Rules.{outside}

@@ -1,11 +1,9 @@
 -- After k turns `at` is where record k begins, and the first k are right or not. Assumes nothing.
 use native.Mathlib.Omega.{arith}
 use borrow.Author.Needs.{needs}
-use mathlib.Core.Path.{_≡_, refl, sym, ap, _∙_}
-use mathlib.Core.Bool.{_&&_}
-use Prim.Native.Nat.{ℕ, _+_, _≤_, _-_}
+use mathlib.Core.Path.{_≡_, sym, _∙_}
+use Prim.Native.Nat.{_≤_, _-_}
 use denote.Ref.{now}
-use Rattle.fields.specs.Fields.{statedAt}
 use Rattle.lists.specs.Searches.{each}
 use Rattle.lists.proofs.SearchLaws.{at-end, each-start, each-more}
 use Rattle.schedule.specs.Shape.{place, right, records}

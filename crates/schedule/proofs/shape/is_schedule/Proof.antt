@@ -1,6 +1,5 @@
 -- The chain of tests is the list of tests, and the bytes are not too long. Assumes nothing.
 use native.Mathlib.Omega.{arith}
-use mathlib.Core.Path.{_≡_, sym, _∙_}
 use mathlib.Core.Bool.{true}
 use borrow.Author.Tests.{le-leb}
 use denote.Ref.{now}

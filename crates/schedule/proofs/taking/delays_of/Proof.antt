@@ -1,5 +1,7 @@
 -- After i turns the delays are those of the first i fates, and `at` is where the next record begins. Assumes nothing.
-use mathlib.Core.Path.{_≡_, refl, sym, ap, _∙_}
+use borrow.Author.Needs.{needs}
+use native.Mathlib.Omega.{arith}
+use mathlib.Core.Path.{_≡_, sym, ap, _∙_}
 use Prim.Native.Nat.{ℕ, _+_, _≤_, _-_}
 use denote.Ref.{now}
 use lib.ListN.{length, getD}
@@ -10,12 +12,9 @@ use Rattle.schedule.specs.Shape.{place, value}
 use Rattle.schedule.specs.Schedule.{copyAt, delaysOf}
 use Rattle.schedule.proofs.Walks.{place-after, in-run}
 use mathlib.Core.List.{List}
-use borrow.Author.Needs.{needs}
-use native.Mathlib.Omega.{arith}
 use Rattle.schedule.proofs.taking.delays_of.Statement.{statement}
 use Rattle.schedule.proofs.taking.delays_of.Tie as tie
 
--- the copy and the delay of fate i
 abbrev copies : List ℕ → ℕ → ℕ → ℕ
 copies bs first i = copyAt bs (value bs (first + i))
 

@@ -1,11 +1,9 @@
 -- After i turns the first i places hold the links, and `at` is where the next record begins. Assumes nothing.
 use borrow.Author.Needs.{needs}
 use native.Mathlib.Omega.{arith}
-use mathlib.Core.Path.{_≡_, refl, sym, ap, _∙_}
-use Prim.Native.Nat.{ℕ, _+_, _≤_, _-_}
+use mathlib.Core.Path.{_≡_, sym, _∙_}
+use Prim.Native.Nat.{_+_, _≤_, _-_}
 use denote.Ref.{now}
-use lib.ListN.{length-set}
-use native.Mathlib.Nat.{add-zero}
 use Rattle.lists.proofs.Listing.{fill-start, fill-next}
 use Rattle.lists.proofs.SearchLaws.{at-end}
 use Rattle.schedule.specs.Shape.{place, value}

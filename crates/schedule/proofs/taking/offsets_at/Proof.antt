@@ -1,11 +1,10 @@
 -- After i turns the first i places hold the bytes from the place on. Assumes nothing.
 use borrow.Author.Needs.{needs}
 use native.Mathlib.Omega.{arith}
-use mathlib.Core.Path.{_≡_, refl, sym, ap, _∙_}
-use Prim.Native.Nat.{ℕ, _+_, _≤_, _-_}
+use mathlib.Core.Path.{_≡_}
+use Prim.Native.Nat.{_+_, _≤_, _-_}
 use denote.Ref.{now}
-use lib.ListN.{getD, length-set}
-use Rattle.lists.specs.Lists.{pad, listed}
+use lib.ListN.{getD}
 use Rattle.lists.proofs.Listing.{fill-start, fill-next}
 use Rattle.lists.proofs.SearchLaws.{at-end}
 use Rattle.schedule.specs.Schedule.{offsetsAt}

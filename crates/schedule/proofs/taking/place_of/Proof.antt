@@ -1,10 +1,9 @@
 -- After i turns `at` is where record i begins. Assumes nothing.
 use borrow.Author.Needs.{needs}
 use native.Mathlib.Omega.{arith}
-use mathlib.Core.Path.{_≡_, refl, sym, ap, _∙_}
-use Prim.Native.Nat.{ℕ, _+_, _≤_, _-_}
+use mathlib.Core.Path.{_≡_, sym, _∙_}
+use Prim.Native.Nat.{_≤_, _-_}
 use denote.Ref.{now}
-use Rattle.fields.specs.Fields.{statedAt}
 use Rattle.lists.proofs.SearchLaws.{at-end}
 use Rattle.schedule.specs.Shape.{place}
 use Rattle.schedule.proofs.Walks.{place-start, place-step, place-in}

@@ -1,7 +1,6 @@
 -- Byte by byte, and the links. Assumes nothing.
 use borrow.Author.Needs.{needs}
 use native.Mathlib.Omega.{arith}
-use mathlib.Core.Path.{_≡_}
 use denote.Ref.{now}
 use Rattle.schedule.specs.Schedule.{planOf}
 use Rattle.schedule.proofs.Tallies.{shape, run}

@@ -1,16 +1,15 @@
 -- After i turns the first i places hold the starts, and `at` is where the next record begins. Assumes nothing.
-use mathlib.Core.Path.{_≡_, refl, sym, ap, _∙_}
-use Prim.Native.Nat.{ℕ, _+_, _≤_, _-_}
+use borrow.Author.Needs.{needs}
+use native.Mathlib.Omega.{arith}
+use mathlib.Core.Path.{_≡_, sym, ap, _∙_}
+use Prim.Native.Nat.{_+_, _≤_, _-_}
 use denote.Ref.{now}
-use lib.ListN.{length-set}
 use native.Mathlib.Nat.{add-zero}
 use Rattle.lists.proofs.Listing.{fill-start, fill-next}
 use Rattle.lists.proofs.SearchLaws.{at-end}
 use Rattle.schedule.specs.Shape.{place, value}
 use Rattle.schedule.specs.Schedule.{startAt, startsOf, noStart}
-use Rattle.schedule.proofs.Walks.{place-start, place-step, place-after, in-run}
-use borrow.Author.Needs.{needs}
-use native.Mathlib.Omega.{arith}
+use Rattle.schedule.proofs.Walks.{place-after, in-run}
 use Rattle.schedule.proofs.taking.starts_of.Statement.{statement}
 use Rattle.schedule.proofs.taking.starts_of.Tie as tie
 

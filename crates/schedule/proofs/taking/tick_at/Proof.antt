@@ -1,8 +1,5 @@
 -- By what `value_at` ensures. Assumes nothing.
 use borrow.Author.Needs.{needs}
-use mathlib.Core.Path.{ap}
-use Prim.Native.Nat.{ℕ}
-use Rattle.clock.specs.declared.Tick.{Tick}
 use Rattle.schedule.proofs.taking.tick_at.Statement.{statement}
 use Rattle.schedule.proofs.taking.tick_at.Tie as tie
 

@@ -1,9 +1,9 @@
 -- Past the tag and the length; a record that is there begins within the bytes. Assumes nothing.
+use native.Mathlib.Omega.{arith}
 use mathlib.Core.Path.{ap}
 use Prim.Native.Nat.{ℕ, _+_}
 use denote.Ref.{now}
 use Rattle.schedule.proofs.Walks.{place-in}
-use native.Mathlib.Omega.{arith}
 use Rattle.schedule.proofs.taking.value_of.Statement.{statement}
 use Rattle.schedule.proofs.taking.value_of.Tie as tie
 
