@@ -2,8 +2,10 @@
 use mathlib.Core.Path.{_≡_, refl, sym, ap, _∙_}
 use mathlib.Core.Bool.{Bool, true, false, cond, true≢false, false≢true}
 use mathlib.Core.Logic.{_⊎_, inl, inr}
-use Prim.Native.Nat.{ℕ, zero, suc, _≤_, _<_, zero-le, suc-le-suc}
+use Prim.Native.Nat.{ℕ, zero, suc, _+_, _≤_, _<_, zero-le, suc-le-suc}
 use native.Mathlib.Nat.{le-trans, le-suc, le-of-suc-le-suc, not-suc-le-zero, lt-of-le-of-lt, eq-or-lt-of-le}
+use native.Mathlib.Numerals.{add-one}
+use native.Mathlib.Omega.{arith}
 use Rattle.lists.specs.Searches.{count}
 
 pub count-le : (n : ℕ) (f : ℕ → Bool) → count n f ≤ n
@@ -59,3 +61,17 @@ pub count-same : (n : ℕ) (f g : ℕ → Bool) → ((i : ℕ) → f i ≡ g i) 
 unfolding count
 count-same zero f g e = refl
 count-same (suc n) f g e = rw (e n, count-same n f g e)
+
+-- ---- a loop that counts
+
+pub count-start : (f : ℕ → Bool) → count 0 f ≡ 0
+unfolding count
+count-start f = refl
+
+pub count-next : (f : ℕ → Bool) (n : ℕ) → count (n + 1) f ≡ count n f + cond (f n) 1 0
+unfolding count
+count-next f n = ap (λ (k : ℕ). count k f) (add-one n) ∙ go (f n)
+  where
+    go : (t : Bool) → cond t (suc (count n f)) (count n f) ≡ count n f + cond t 1 0
+    go true = omega arith
+    go false = omega arith

@@ -7,6 +7,7 @@ pub mod CountLaws
 pub mod MemberLaws
 pub mod Loops
 pub mod Places
+pub mod Listing
 pub mod Order
 pub mod Listed
 pub mod Rises

@@ -8,7 +8,7 @@ use native.Mathlib.Numerals.{add-one}
 use native.Mathlib.Omega.{arith}
 use borrow.Author.Tests.{leb-true, leb-false}
 use lib.Dec.{leb}
-use Rattle.lists.specs.Searches.{some, each, largest, least}
+use Rattle.lists.specs.Searches.{some, each, largest, least, lastOf}
 use Rattle.lists.proofs.Bools.{false-unless, and-left, and-right, or-left, or-right, or-true-left, or-true-right, or-cases}
 
 -- i is below n or it is n
@@ -176,3 +176,35 @@ pub some-same : (n : ℕ) (f g : ℕ → Bool) → ((i : ℕ) → i < n → f i 
 unfolding some
 some-same zero f g e = refl
 some-same (suc n) f g e = ap₂ (λ (x y : Bool). x || y) (e n (le-refl (suc n))) (some-same n f g (λ i h. e i (le-trans h (le-suc n))))
+
+-- where the search for the least stops: at a number that passes after none that does, or past them all
+pub least-here : (n : ℕ) (f : ℕ → Bool) (k : ℕ) → k < n → ((j : ℕ) → j < k → f j ≡ false) → f k ≡ true → k ≡ least n f
+least-here n f k h none e = le-antisymm (le-least n f k (omega arith) none) (least-le n f k h e)
+
+pub least-none : (n : ℕ) (f : ℕ → Bool) → ((j : ℕ) → j < n → f j ≡ false) → n ≡ least n f
+least-none n f none = le-antisymm (le-least n f n (le-refl n) none) (least-bound n f)
+
+-- what lies before the least fails
+pub before-least : (n : ℕ) (f : ℕ → Bool) (k : ℕ) → k < least n f → f k ≡ false
+before-least n f k h = false-unless (f k) (λ e. let l = least-le n f k (let b = least-bound n f in omega arith) e in omega arith)
+
+-- ---- lastOf: what is found passed its test, or nothing did
+
+module _ {A : Type 0} (f : ℕ → Bool) (v : ℕ → A) (d : A) where
+  pub lastOf-start : lastOf 0 f v d ≡ d
+  unfolding lastOf
+  lastOf-start = refl
+
+  pub lastOf-next : (n : ℕ) → lastOf (n + 1) f v d ≡ cond (f n) (v n) (lastOf n f v d)
+  unfolding lastOf
+  lastOf-next n = ap (λ (k : ℕ). lastOf k f v d) (add-one n)
+
+  -- whatever holds of the default, and of the value at each number that passes, holds of what is found
+  pub lastOf-is : (P : A → Type 0) (n : ℕ) → P d → ((i : ℕ) → i < n → f i ≡ true → P (v i)) → P (lastOf n f v d)
+  unfolding lastOf
+  lastOf-is P zero p q = p
+  lastOf-is P (suc n) p q = go (f n) refl (lastOf-is P n p (λ i h. q i (le-trans h (le-suc n))))
+    where
+      go : (t : Bool) → f n ≡ t → P (lastOf n f v d) → P (cond t (v n) (lastOf n f v d))
+      go true e r = q n (le-refl (suc n)) e
+      go false e r = r

@@ -1,7 +1,7 @@
 -- Lists: tests of their elements, order, and the places of an array. Assumes nothing.
 use mathlib.Core.Bool.{Bool, true, false, cond, _&&_, _||_}
 use mathlib.Core.List.{List, [], _∷_, _++_}
-use Prim.Native.Nat.{ℕ, _-_}
+use Prim.Native.Nat.{ℕ, zero, suc, _-_}
 use lib.ListN.{length, replicate}
 
 module _ {A : Type 0} where
@@ -42,3 +42,8 @@ module _ {A : Type 0} where
   abbrev pub flat : List (List A) → List A
   flat [] = []
   flat (x ∷ l) = x ++ flat l
+
+  -- f 0, .., f (n - 1)
+  unfoldable pub listed : ℕ → (ℕ → A) → List A
+  listed zero f = []
+  listed (suc n) f = listed n f ++ (f n ∷ [])

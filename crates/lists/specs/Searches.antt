@@ -26,3 +26,8 @@ least (suc n) f = cond (f 0) 0 (suc (least n (λ k. f (suc k))))
 unfoldable pub count : ℕ → (ℕ → Bool) → ℕ
 count zero f = 0
 count (suc n) f = cond (f n) (suc (count n f)) (count n f)
+
+-- the value at the last number below n at which the test passes, and d where there is none
+unfoldable pub lastOf : {A : Type 0} → ℕ → (ℕ → Bool) → (ℕ → A) → A → A
+lastOf zero f v d = d
+lastOf (suc n) f v d = cond (f n) (v n) (lastOf n f v d)

@@ -1,0 +1,5 @@
+-- The laws of schedules, for the proofs here and for callers.
+pub mod Walks
+pub mod Tallies
+pub mod Verdicts
+pub mod One
