@@ -179,21 +179,25 @@ startSays h u o = saidBy (startRefusal h u o) (ownLinks (h .plan) (h .own)) (con
 abbrev pub withStart : List Reading → Reading → List Reading
 withStart l u = drop (length l - 3) l ++ (u ∷ [])
 
--- the state at a reading, with these orders held: "An accepted call sets the last reading to U"
-abbrev pub at : Host → Reading → ℕ → List Reading → List Held → Host
-at h u started starts held =
+-- the state with these parts in place of its own; the plan, the rule set, d, Δ and the own number stay
+abbrev pub with : Host → Reading → List Reading → ℕ → List Held → ℕ → Host
+with h last starts started history held =
     record {
       plan = h .plan;
       rules = h .rules;
       d = h .d;
       bound = h .bound;
       own = h .own;
-      last = u;
+      last = last;
       started = started;
       starts = starts;
-      held = length held;
-      history = pad 32 noHeld held;
+      held = held;
+      history = history;
     }
+
+-- the state at a reading, with these orders held: "An accepted call sets the last reading to U"
+abbrev pub at : Host → Reading → ℕ → List Reading → List Held → Host
+at h u started starts held = with h u starts started (pad 32 noHeld held) (length held)
 
 -- "T = U. The order is held under (T, own number)"
 abbrev pub startOf : Host → Reading → Order → Held
