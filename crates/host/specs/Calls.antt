@@ -276,11 +276,21 @@ receiveHost h u arrival hop x = unless (receiveRefusal h (u .0) arrival hop x) (
 -- ---- tick: "tick 9, 10, 11, 22"
 
 -- "Every held order with T + Δ ≤ U", and what "leaves the history" and what stays
+abbrev pub dueIn : ℕ → ℕ → List Held → List Held
+dueIn Δ u l = keep (due Δ u) l
+
+abbrev pub waitingIn : ℕ → ℕ → List Held → List Held
+waitingIn Δ u l = keep (λ e. not (due Δ u e)) l
+
 abbrev pub dueOf : Host → ℕ → List Held
-dueOf h u = keep (due (h .bound) u) (heldOf h)
+dueOf h u = dueIn (h .bound) u (heldOf h)
 
 abbrev pub waitingOf : Host → ℕ → List Held
-waitingOf h u = keep (λ e. not (due (h .bound) u e)) (heldOf h)
+waitingOf h u = waitingIn (h .bound) u (heldOf h)
+
+-- "written to the lent list .. Bytes after the last entry stay as they were"
+abbrev pub written : List Held → List ℕ → List ℕ
+written l out = entriesOf l ++ drop (16 * length l) out
 
 unfoldable pub tickTests : Host → ℕ → ℕ → List (ℕ × Bool)
 tickTests h u room =
@@ -303,9 +313,8 @@ afterTick h u = at h u (h .started) (h .starts) (waitingOf h (u .0))
 abbrev pub tickHost : Host → Reading → ℕ → Host
 tickHost h u room = unless (tickRefusal h (u .0) room) (afterTick h u) h
 
--- "written to the lent list .. Bytes after the last entry stay as they were"
 abbrev pub tickList : Host → ℕ → List ℕ → List ℕ
-tickList h u out = unless (tickRefusal h u (length out)) (entriesOf (dueOf h u) ++ drop (16 * length (dueOf h u)) out) out
+tickList h u out = unless (tickRefusal h u (length out)) (written (dueOf h u) out) out
 
 -- ---- the three calls at a reading as one
 
