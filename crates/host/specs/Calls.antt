@@ -179,21 +179,25 @@ startSays h u o = saidBy (startRefusal h u o) (ownLinks (h .plan) (h .own)) (con
 abbrev pub withStart : List Reading → Reading → List Reading
 withStart l u = drop (length l - 3) l ++ (u ∷ [])
 
--- the state at a reading, with these orders held: "An accepted call sets the last reading to U"
-abbrev pub at : Host → Reading → ℕ → List Reading → List Held → Host
-at h u started starts held =
+-- the state with these parts in place of its own; the plan, the rule set, d, Δ and the own number stay
+abbrev pub with : Host → Reading → List Reading → ℕ → List Held → ℕ → Host
+with h last starts started history held =
     record {
       plan = h .plan;
       rules = h .rules;
       d = h .d;
       bound = h .bound;
       own = h .own;
-      last = u;
+      last = last;
       started = started;
       starts = starts;
-      held = length held;
-      history = pad 32 noHeld held;
+      held = held;
+      history = history;
     }
+
+-- the state at a reading, with these orders held: "An accepted call sets the last reading to U"
+abbrev pub at : Host → Reading → ℕ → List Reading → List Held → Host
+at h u started starts held = with h u starts started (pad 32 noHeld held) (length held)
 
 -- "T = U. The order is held under (T, own number)"
 abbrev pub startOf : Host → Reading → Order → Held
@@ -272,11 +276,21 @@ receiveHost h u arrival hop x = unless (receiveRefusal h (u .0) arrival hop x) (
 -- ---- tick: "tick 9, 10, 11, 22"
 
 -- "Every held order with T + Δ ≤ U", and what "leaves the history" and what stays
+abbrev pub dueIn : ℕ → ℕ → List Held → List Held
+dueIn Δ u l = keep (due Δ u) l
+
+abbrev pub waitingIn : ℕ → ℕ → List Held → List Held
+waitingIn Δ u l = keep (λ e. not (due Δ u e)) l
+
 abbrev pub dueOf : Host → ℕ → List Held
-dueOf h u = keep (due (h .bound) u) (heldOf h)
+dueOf h u = dueIn (h .bound) u (heldOf h)
 
 abbrev pub waitingOf : Host → ℕ → List Held
-waitingOf h u = keep (λ e. not (due (h .bound) u e)) (heldOf h)
+waitingOf h u = waitingIn (h .bound) u (heldOf h)
+
+-- "written to the lent list .. Bytes after the last entry stay as they were"
+abbrev pub written : List Held → List ℕ → List ℕ
+written l out = entriesOf l ++ drop (16 * length l) out
 
 unfoldable pub tickTests : Host → ℕ → ℕ → List (ℕ × Bool)
 tickTests h u room =
@@ -299,9 +313,8 @@ afterTick h u = at h u (h .started) (h .starts) (waitingOf h (u .0))
 abbrev pub tickHost : Host → Reading → ℕ → Host
 tickHost h u room = unless (tickRefusal h (u .0) room) (afterTick h u) h
 
--- "written to the lent list .. Bytes after the last entry stay as they were"
 abbrev pub tickList : Host → ℕ → List ℕ → List ℕ
-tickList h u out = unless (tickRefusal h u (length out)) (entriesOf (dueOf h u) ++ drop (16 * length (dueOf h u)) out) out
+tickList h u out = unless (tickRefusal h u (length out)) (written (dueOf h u) out) out
 
 -- ---- the three calls at a reading as one
 

@@ -3,4 +3,3 @@ pub mod Entries
 pub mod Calls
 pub mod Published
 pub mod Cases
-pub mod Inside

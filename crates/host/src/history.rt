@@ -23,7 +23,9 @@ pub(crate) struct Seen {
 // Whether the order's name is held: for the same order, for another, for any.
 pub(crate) fn look(history: [Held; 32], held: usize, x: Held) -> Seen
     requires { ⌜ held ≤ 32 ⌝ }
-    ensures { λ r. ⌜ (r .same ≡ any (sameHeld x) (take held history)) × ((r .other ≡ any (otherHeld x) (take held history)) × (r .named ≡ any (sameName x) (take held history))) ⌝ }
+    ensures { λ r. ⌜ r .same ≡ any (sameHeld x) (take held history) ⌝ }
+    ensures { λ r. ⌜ r .other ≡ any (otherHeld x) (take held history) ⌝ }
+    ensures { λ r. ⌜ r .named ≡ any (sameName x) (take held history) ⌝ }
 {
     let order = x.order;
     let mut known = false;

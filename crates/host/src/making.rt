@@ -23,7 +23,8 @@ ghost use Rattle.host.specs.Calls.{number, refusalOf, unstarted, cleared
 
 // A fresh host of the plan; or the zero state.
 pub fn make(plan: Plan, rules: u8, own: u8) -> Made
-    ensures { λ r. ⌜ (r .host ≡ makeHost plan rules own) × (refusalOf (r .answer) ≡ makeRefusal plan rules own) ⌝ }
+    ensures { λ r. ⌜ r .host ≡ makeHost plan rules own ⌝ }
+    ensures { λ r. ⌜ refusalOf (r .answer) ≡ makeRefusal plan rules own ⌝ }
 {
     let found = planned(plan);
     match found {
@@ -36,7 +37,8 @@ pub fn make(plan: Plan, rules: u8, own: u8) -> Made
 
 fn make_planned(plan: Plan, rules: u8, own: u8, b: Bounds) -> Made
     requires { ⌜ (planRefusal plan ≡ 0) × (b ≡ bounds plan (worst plan)) ⌝ }
-    ensures { λ r. ⌜ (r .host ≡ makeHost plan rules own) × (refusalOf (r .answer) ≡ makeRefusal plan rules own) ⌝ }
+    ensures { λ r. ⌜ r .host ≡ makeHost plan rules own ⌝ }
+    ensures { λ r. ⌜ refusalOf (r .answer) ≡ makeRefusal plan rules own ⌝ }
 {
     if !is_rules(rules) {
         return refused(Refusal::BadValue);
@@ -51,7 +53,8 @@ fn make_planned(plan: Plan, rules: u8, own: u8, b: Bounds) -> Made
 }
 
 fn refused(refusal: Refusal) -> Made
-    ensures { λ r. ⌜ (r .host ≡ noHost) × (refusalOf (r .answer) ≡ number refusal) ⌝ }
+    ensures { λ r. ⌜ r .host ≡ noHost ⌝ }
+    ensures { λ r. ⌜ refusalOf (r .answer) ≡ number refusal ⌝ }
 {
     let none = Link { a: 0, b: 0 };
     let plan = Plan {

@@ -29,7 +29,8 @@ ghost use Rattle.host.specs.Calls.{refusalOf, says, inPlan, copyFits, ea
 
 // The order is held, to be relayed on all own links but the one it came over; or the state comes back as it was.
 pub fn receive(host: Host, u: Reading, arrival: u8, hop: u8, copy: Held) -> Acted
-    ensures { λ r. ⌜ (r .host ≡ receiveHost host u arrival hop copy) × (says (r .answer) ≡ receiveSays host (u .0) arrival hop copy) ⌝ }
+    ensures { λ r. ⌜ r .host ≡ receiveHost host u arrival hop copy ⌝ }
+    ensures { λ r. ⌜ says (r .answer) ≡ receiveSays host (u .0) arrival hop copy ⌝ }
 {
     let found = receive_verdict(host, u, arrival, hop, copy);
     match found {
@@ -116,7 +117,8 @@ fn is_late(rules: u8, plan: Plan, u: Reading, hop: u8, stamp: Reading) -> bool
 
 fn receive_accepted(host: Host, u: Reading, arrival: u8, hop: u8, copy: Held) -> Acted
     requires { ⌜ receiveRefusal host (u .0) arrival hop copy ≡ 0 ⌝ }
-    ensures { λ r. ⌜ (r .host ≡ receiveHost host u arrival hop copy) × (says (r .answer) ≡ receiveSays host (u .0) arrival hop copy) ⌝ }
+    ensures { λ r. ⌜ r .host ≡ receiveHost host u arrival hop copy ⌝ }
+    ensures { λ r. ⌜ says (r .answer) ≡ receiveSays host (u .0) arrival hop copy ⌝ }
 {
     let plan = host.plan;
     let starts = host.starts;

@@ -27,7 +27,8 @@ ghost use Rattle.host.specs.Calls.{refusalOf, says, startRefusal, startS
 
 // The order is held under the reading and the host's number, to be sent on all own links; or the state comes back as it was.
 pub fn start(host: Host, u: Reading, order: Order) -> Acted
-    ensures { λ r. ⌜ (r .host ≡ startHost host u order) × (says (r .answer) ≡ startSays host (u .0) order) ⌝ }
+    ensures { λ r. ⌜ r .host ≡ startHost host u order ⌝ }
+    ensures { λ r. ⌜ says (r .answer) ≡ startSays host (u .0) order ⌝ }
 {
     let found = start_verdict(host, u, order);
     match found {
@@ -68,7 +69,8 @@ fn start_checks(host: Host, u: Reading, order: Order) -> Verdict
 
 fn start_accepted(host: Host, u: Reading, order: Order) -> Acted
     requires { ⌜ startRefusal host (u .0) order ≡ 0 ⌝ }
-    ensures { λ r. ⌜ (r .host ≡ startHost host u order) × (says (r .answer) ≡ startSays host (u .0) order) ⌝ }
+    ensures { λ r. ⌜ r .host ≡ startHost host u order ⌝ }
+    ensures { λ r. ⌜ says (r .answer) ≡ startSays host (u .0) order ⌝ }
 {
     let plan = host.plan;
     let starts = host.starts;

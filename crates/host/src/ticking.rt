@@ -14,19 +14,18 @@ use clock::Reading;
 use clock::is_reading;
 use clock::reached;
 ghost use mathlib.Core.Path.{_≡_};
-ghost use mathlib.Core.Bool.{true, not};
-ghost use mathlib.Core.List.{_++_};
+ghost use mathlib.Core.Bool.{true};
 ghost use Prim.Native.Nat.{_*_, _≤_};
-ghost use lib.ListN.{length, take, drop};
-ghost use Rattle.lists.specs.Lists.{keep, pad};
-ghost use Rattle.host.specs.declared.Held.{Held};
+ghost use lib.ListN.{length, take};
+ghost use Rattle.lists.specs.Lists.{pad};
 ghost use Rattle.host.specs.State.{noHeld, sound};
-ghost use Rattle.host.specs.Entries.{entriesOf};
-ghost use Rattle.host.specs.Calls.{refusalOf, saysTick, due, tickRefusal, tickSays, tickHost, tickList};
+ghost use Rattle.host.specs.Calls.{refusalOf, saysTick, dueIn, waitingIn, written, tickRefusal, tickSays, tickHost, tickList};
 
 // Every order that is due leaves the history for the lent list; or the state comes back as it was, and the list keeps its bytes.
 pub fn tick(host: Host, u: Reading, out: &mut [u8]) -> Ticked
-    ensures { λ r. ⌜ (r .host ≡ tickHost host u (length (now (out .entry)))) × ((saysTick (r .answer) ≡ tickSays host (u .0) (length (now (out .entry)))) × (now (out .exit) ≡ tickList host (u .0) (now (out .entry)))) ⌝ }
+    ensures { λ r. ⌜ r .host ≡ tickHost host u (length (now (out .entry))) ⌝ }
+    ensures { λ r. ⌜ saysTick (r .answer) ≡ tickSays host (u .0) (length (now (out .entry))) ⌝ }
+    ensures { λ r. ⌜ now (out .exit) ≡ tickList host (u .0) (now (out .entry)) ⌝ }
 {
     let found = tick_verdict(host, u, out.len());
     match found {
@@ -60,7 +59,9 @@ fn tick_checks(host: Host, u: Reading, room: usize) -> Verdict
 
 fn tick_accepted(host: Host, u: Reading, out: &mut [u8]) -> Ticked
     requires { ⌜ tickRefusal host (u .0) (length (now out)) ≡ 0 ⌝ }
-    ensures { λ r. ⌜ (r .host ≡ tickHost host u (length (now (out .entry)))) × ((saysTick (r .answer) ≡ tickSays host (u .0) (length (now (out .entry)))) × (now (out .exit) ≡ tickList host (u .0) (now (out .entry)))) ⌝ }
+    ensures { λ r. ⌜ r .host ≡ tickHost host u (length (now (out .entry))) ⌝ }
+    ensures { λ r. ⌜ saysTick (r .answer) ≡ tickSays host (u .0) (length (now (out .entry))) ⌝ }
+    ensures { λ r. ⌜ now (out .exit) ≡ tickList host (u .0) (now (out .entry)) ⌝ }
 {
     let starts = host.starts;
     let history = host.history;
@@ -83,7 +84,7 @@ pub(crate) struct Rest {
 // How many of those held are due.
 fn count_due(history: [Held; 32], held: usize, bound: u64, u: Reading) -> usize
     requires { ⌜ held ≤ 32 ⌝ }
-    ensures { λ r. ⌜ (r ≡ length (keep (due bound (u .0)) (take held history))) × (r ≤ held) ⌝ }
+    ensures { λ r. ⌜ (r ≡ length (dueIn bound (u .0) (take held history))) × (r ≤ held) ⌝ }
 {
     let mut n: usize = 0;
     let mut i = 0;
@@ -99,8 +100,11 @@ fn count_due(history: [Held; 32], held: usize, bound: u64, u: Reading) -> usize
 
 // Writes the entries of those that are due from the front of the lent list, and keeps the others.
 fn deliver(out: &mut [u8], history: [Held; 32], held: usize, bound: u64, u: Reading) -> Rest
-    requires { ⌜ (held ≤ 32) × (16 * length (keep (due bound (u .0)) (take held history)) ≤ length (now out)) ⌝ }
-    ensures { λ r. ⌜ (r .delivered ≡ length (keep (due bound (u .0)) (take held history))) × ((r .held ≡ length (keep (λ (e : Held). not (due bound (u .0) e)) (take held history))) × ((r .history ≡ pad 32 noHeld (keep (λ (e : Held). not (due bound (u .0) e)) (take held history))) × (now (out .exit) ≡ entriesOf (keep (due bound (u .0)) (take held history)) ++ drop (16 * length (keep (due bound (u .0)) (take held history))) (now (out .entry))))) ⌝ }
+    requires { ⌜ (held ≤ 32) × (16 * length (dueIn bound (u .0) (take held history)) ≤ length (now out)) ⌝ }
+    ensures { λ r. ⌜ r .delivered ≡ length (dueIn bound (u .0) (take held history)) ⌝ }
+    ensures { λ r. ⌜ r .held ≡ length (waitingIn bound (u .0) (take held history)) ⌝ }
+    ensures { λ r. ⌜ r .history ≡ pad 32 noHeld (waitingIn bound (u .0) (take held history)) ⌝ }
+    ensures { λ r. ⌜ now (out .exit) ≡ written (dueIn bound (u .0) (take held history)) (now (out .entry)) ⌝ }
 {
     let mut rest = [no_held(); 32];
     let mut waiting: usize = 0;
