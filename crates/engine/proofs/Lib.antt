@@ -1,0 +1,8 @@
+-- The laws of a run, for the proofs here and for callers.
+pub mod Readings
+pub mod Turns
+pub mod Logs
+pub mod Copies
+pub mod Openings
+pub mod Hands
+pub mod Kept

@@ -1,0 +1,27 @@
+-- The hosts at first: one is made, and the others are like it but for their numbers. Assumes nothing.
+use mathlib.Core.Path.{_≡_, refl, sym, ap, _∙_}
+use mathlib.Core.List.{List, []}
+use Prim.Native.Nat.{ℕ, _<_}
+use native.Mathlib.Omega.{arith}
+use lib.ListN.{replicate}
+use Rattle.lists.specs.Lists.{listed}
+use Rattle.network.specs.Network.{n}
+use Rattle.host.specs.Calls.{fresh, makeRefusal, makeHost}
+use Rattle.host.specs.declared.Host.{Host}
+use Rattle.host.proofs.Fresh.{make-runs}
+use Rattle.host.proofs.Outcomes.{accepted}
+use Rattle.schedule.specs.declared.Schedule.{Schedule}
+use Rattle.engine.specs.declared.world.Station.{Station}
+use Rattle.engine.specs.declared.world.World.{World}
+use Rattle.engine.specs.Parts.{noTick}
+use Rattle.engine.specs.Run.{opening}
+use Rattle.engine.specs.Inside.{Playable, freshStation}
+
+pub opened : (s : Schedule) → Playable s → (h : Host) (l : List Station) → h ≡ makeHost (s .plan) 1 0 → l ≡ listed 8 (freshStation h)
+    → record { stations = l; post = record { arrivals = replicate 384 noTick; copies = 0 }; refusals = replicate 16 0 } ≡ opening s
+unfolding opening
+opened s z h l e k =
+    let made : makeRefusal (s .plan) 1 0 ≡ 0 = make-runs (s .plan) 1 0 (record { planned = z .planned; is-rules = refl; own-below = z .n-some }) in
+    let first : h ≡ fresh (s .plan) 1 0 = e ∙ accepted (makeRefusal (s .plan) 1 0) (fresh (s .plan) 1 0) _ made in
+    let all : l ≡ listed 8 (freshStation (fresh (s .plan) 1 0)) = k ∙ ap (λ (g : Host). listed 8 (freshStation g)) first in
+    cc all

@@ -1,0 +1,58 @@
+-- Notions that only contracts cite beside the definitions. Assumes nothing.
+use mathlib.Core.Path.{_≡_}
+use mathlib.Core.List.{[]}
+use Prim.Native.Nat.{ℕ, _+_, _≤_, _<_}
+use lib.ListN.{length, getD}
+use Rattle.network.specs.Network.{n, m, link, planRefusal, worst, bounds}
+use Rattle.clock.specs.declared.Reading.{Reading}
+use Rattle.host.specs.Calls.{dueOf}
+use Rattle.host.specs.declared.Host.{Host}
+use Rattle.schedule.specs.declared.Schedule.{Schedule}
+use Rattle.engine.specs.declared.Outcome.{Outcome}
+use Rattle.engine.specs.declared.Log.{Log}
+use Rattle.engine.specs.declared.world.Station.{Station}
+use Rattle.engine.specs.Parts.{listOf, logOf, start}
+
+-- an outcome's numbers stay within its places
+pub record InPlaces (o : Outcome) : Type 0 where
+  pub hosts : o .hosts ≤ 8
+  pub starts : o .starts ≤ 16
+  pub logs : (p : ℕ) → getD (o .logs) p (logOf []) .count ≤ 16
+
+-- a schedule whose numbers are those that can be played
+pub record Playable (s : Schedule) : Type 0 where
+  pub planned : planRefusal (s .plan) ≡ 0
+  pub bounded : s .bounds ≡ bounds (s .plan) (worst (s .plan))
+  pub ends : (i : ℕ) → (link (s .plan) i .a < 8) × (link (s .plan) i .b < 8)
+  pub n-some : 0 < n (s .plan)
+  pub n-most : n (s .plan) ≤ 8
+  pub m-most : m (s .plan) ≤ 12
+  pub few : s .«start_count» ≤ 16
+  pub hosts : (k : ℕ) → start s k .host < 8
+  pub ticks : (k : ℕ) → start s k .tick .0 ≤ 4096
+  pub end : s .end .0 ≤ 4096
+
+-- a station whose host is another's, under a number of its own
+abbrev pub freshStation : Host → ℕ → Station
+freshStation h p =
+    record {
+      log = logOf [];
+      host =
+          record {
+            plan = h .plan;
+            rules = h .rules;
+            d = h .d;
+            bound = h .bound;
+            own = p;
+            last = h .last;
+            started = h .started;
+            starts = h .starts;
+            held = h .held;
+            history = h .history;
+          };
+    }
+
+-- a station whose log has room for what is due
+pub record Room (p : Station) (u : Reading) : Type 0 where
+  pub log : p .log ≡ logOf (listOf (p .log))
+  pub room : p .log .count + length (dueOf (p .host) (u .0)) ≤ 16

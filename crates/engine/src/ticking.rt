@@ -1,0 +1,73 @@
+// All hosts tick, and what they deliver is kept.
+use crate::Delivery;
+use crate::Log;
+use crate::clocks::clock_of;
+use crate::world::Station;
+use clock::Reading;
+use clock::Tick;
+use host::Held;
+use host::TickAnswer;
+use schedule::Schedule;
+ghost use mathlib.Core.Path.{_≡_};
+ghost use mathlib.Core.List.{_++_, map};
+ghost use Prim.Native.Nat.{ℕ, _+_, _≤_, _<_};
+ghost use lib.ListN.{take, getD};
+ghost use Rattle.network.specs.Network.{n};
+ghost use Rattle.engine.specs.Turns.{inTurn};
+ghost use Rattle.engine.specs.Parts.{noStation, clock, listOf, logOf};
+ghost use Rattle.engine.specs.Run.{delivery, ticked, tickOne};
+ghost use Rattle.engine.specs.Inside.{Room};
+
+pub(crate) fn tick_all(s: Schedule, t: Tick, stations: [Station; 8]) -> [Station; 8]
+    requires { ⌜ (n (s .plan) ≤ 8) × (t .0 ≤ 65_535) × ((p : ℕ) → p < n (s .plan) → Room (getD stations p noStation) (clock s t p)) ⌝ }
+    ensures { λ r. ⌜ r ≡ inTurn (n (s .plan)) (tickOne s t) stations ⌝ }
+{
+    let mut all = stations;
+    let mut p: u8 = 0;
+    while p < s.plan.hosts {
+        let at = p as usize;
+        all[at] = tick_one(all[at], clock_of(s, t, p));
+        p += 1;
+    }
+    all
+}
+
+fn tick_one(station: Station, u: Reading) -> Station
+    requires { ⌜ Room station u ⌝ }
+    ensures { λ r. ⌜ r ≡ ticked u station ⌝ }
+{
+    let mut out = [0u8; 512];
+    let before = station.host;
+    let log = station.log;
+    let history = before.history;
+    let after = host::tick(before, u, &mut out);
+    let host = after.host;
+    let answer = after.answer;
+    match answer {
+        TickAnswer::Refused(_) => Station { host, log },
+        TickAnswer::Delivered(count) => Station {
+            host,
+            log: more(log, history, count, u),
+        },
+    }
+}
+
+// The log with the first so many of a history more, delivered at a reading.
+fn more(log: Log, history: [Held; 32], count: usize, u: Reading) -> Log
+    requires { ⌜ (log ≡ logOf (listOf log)) × (log .count + count ≤ 16) ⌝ }
+    ensures { λ r. ⌜ r ≡ logOf (listOf log ++ map (delivery u) (take count history)) ⌝ }
+{
+    let mut entries = log.entries;
+    let mut i: usize = 0;
+    while i < count {
+        entries[log.count + i] = Delivery {
+            at: u,
+            what: history[i],
+        };
+        i += 1;
+    }
+    Log {
+        count: log.count + count,
+        entries,
+    }
+}
