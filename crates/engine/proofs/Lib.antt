@@ -6,3 +6,6 @@ pub mod Copies
 pub mod Openings
 pub mod Hands
 pub mod Kept
+pub mod Steps
+pub mod Worlds
+pub mod Plays
