@@ -2,4 +2,6 @@
 pub mod Walks
 pub mod Tallies
 pub mod Verdicts
+pub mod Records
+pub mod Laws
 pub mod One
