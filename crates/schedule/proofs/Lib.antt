@@ -3,5 +3,6 @@ pub mod Walks
 pub mod Tallies
 pub mod Verdicts
 pub mod Records
+pub mod Parts
 pub mod Laws
 pub mod One
