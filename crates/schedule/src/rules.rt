@@ -1,7 +1,7 @@
 // The rules of a schedule (refusal 32).
+use crate::fates::copy_at;
 use crate::shape::next;
 use crate::taking::NO_LINK;
-use crate::taking::copy_at;
 use crate::taking::tick_at;
 use clock::Tick;
 use network::Faults;

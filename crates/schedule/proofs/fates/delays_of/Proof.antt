@@ -12,8 +12,8 @@ use Rattle.schedule.specs.Shape.{place, value}
 use Rattle.schedule.specs.Schedule.{copyAt, delaysOf}
 use Rattle.schedule.proofs.Walks.{place-after, in-run}
 use mathlib.Core.List.{List}
-use Rattle.schedule.proofs.taking.delays_of.Statement.{statement}
-use Rattle.schedule.proofs.taking.delays_of.Tie as tie
+use Rattle.schedule.proofs.fates.delays_of.Statement.{statement}
+use Rattle.schedule.proofs.fates.delays_of.Tie as tie
 
 abbrev copies : List ℕ → ℕ → ℕ → ℕ
 copies bs first i = copyAt bs (value bs (first + i))

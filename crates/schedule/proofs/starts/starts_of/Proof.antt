@@ -10,8 +10,8 @@ use Rattle.lists.proofs.SearchLaws.{at-end}
 use Rattle.schedule.specs.Shape.{place, value}
 use Rattle.schedule.specs.Schedule.{startAt, startsOf, noStart}
 use Rattle.schedule.proofs.Walks.{place-after, in-run}
-use Rattle.schedule.proofs.taking.starts_of.Statement.{statement}
-use Rattle.schedule.proofs.taking.starts_of.Tie as tie
+use Rattle.schedule.proofs.starts.starts_of.Statement.{statement}
+use Rattle.schedule.proofs.starts.starts_of.Tie as tie
 
 abbrev Inv-loop : tie.InvT-loop
 Inv-loop bytes first count starts₀ at₀ i₀ starts at i = (i ≤ count) × ((at ≡ place bytes (first + i)) × (starts ≡ startsOf bytes first i))

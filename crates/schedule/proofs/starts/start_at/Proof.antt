@@ -4,8 +4,8 @@ use native.Mathlib.Omega.{arith}
 use Prim.Native.Nat.{_+_}
 use Rattle.lists.proofs.ByteLaws.{val-lt}
 use denote.Ref.{now}
-use Rattle.schedule.proofs.taking.start_at.Statement.{statement}
-use Rattle.schedule.proofs.taking.start_at.Tie as tie
+use Rattle.schedule.proofs.starts.start_at.Statement.{statement}
+use Rattle.schedule.proofs.starts.start_at.Tie as tie
 
 add-value-at : tie.Need-add-value-at
 add-value-at c = search needs

@@ -3,8 +3,8 @@ use borrow.Author.Needs.{needs}
 use mathlib.Core.Path.{sym}
 use denote.Ref.{now}
 use lib.Seq.{set-out}
-use Rattle.schedule.proofs.taking.set_delay.Statement.{statement}
-use Rattle.schedule.proofs.taking.set_delay.Tie as tie
+use Rattle.schedule.proofs.fates.set_delay.Statement.{statement}
+use Rattle.schedule.proofs.fates.set_delay.Tie as tie
 
 slice-write-delays : tie.Need-slice-write-delays
 slice-write-delays c = search needs
