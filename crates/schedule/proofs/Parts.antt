@@ -1,14 +1,15 @@
 -- The offsets, starts and delays of a schedule that reading accepts. Assumes nothing.
 use mathlib.Core.Path.{_≡_, sym, ap, _∙_}
-use mathlib.Core.Bool.{true, false}
+use mathlib.Core.Bool.{true, false, and-true}
 use mathlib.Core.List.{List}
 use native.Mathlib.Nat.{le-refl, le-trans}
 use native.Mathlib.Decide.{decLe}
 use Prim.Native.Nat.{ℕ, zero, suc, _+_, _-_, _≤_, _<_}
 use native.Mathlib.Omega.{arith}
-use borrow.Author.Tests.{not-true, ltb-true, ltb-false, leb-true, leb-false, eqb-true, eq-eqb}
+use borrow.Author.Tests.{not-true, ltb-true, ltb-false, leb-true, leb-false, eqb-true, eqb-false}
 use lib.Dec.{leb, eqb}
 use lib.ListN.{length, take, getD, List·getD-eq-default}
+use Rattle.lists.proofs.Bools.{false-unless}
 use Rattle.lists.specs.Bytes.{valAt}
 use Rattle.lists.specs.Lists.{pad, listed}
 use Rattle.lists.proofs.Places.{getD-pad, length-pad, take-pad}
@@ -121,7 +122,7 @@ module _ (bs : List ℕ) where
     pub fated-high : (copy : ℕ) → copy < 384 → fated copy ≤ δ (planOf bs)
     fated-high copy c =
         by-fate (λ d. d ≤ δ (planOf bs)) copy c (in-ranges .delay-low)
-        (λ i h e. ltb-false (δ (planOf bs)) (late i) (none-each _ (fate-in bs accepted i (fate-there i h)) .0))
+        (λ i h e. let t = none-each _ (fate-in bs accepted i (fate-there i h)) in let u = t .0 in omega (arith, ltb-false))
 
     pub fated-lost : (k l b : ℕ) → k < 16 → l < 12 → b < 2 → fated (copyOf k l b) ≡ 0 → survives (planOf bs) (faultsOf bs) l ≡ false
     fated-lost k l b x y z =
@@ -133,5 +134,5 @@ module _ (bs : List ℕ) where
         let way : getD bs (at + 2) 0 ≤ 1 = leb-true _ _ (f .1 .1 .1 .0) in
         let on : at + 1 ≡ place bs (firstFate bs + i) + 4 = omega arith in
         let same : getD bs (at + 1) 0 ≡ l = omega (arith, sound-shape bs accepted .few-links) in
-        let t = none-each _ (fate-in bs accepted i (fate-there i h)) .1 .0 in
-        rw (eq-eqb (late i) 0 w, ← on, same) at t)
+        let t = none-each _ (fate-in bs accepted i (fate-there i h)) in
+        false-unless _ (λ s. let u = rw (← on, same, s, and-true) at (t .1 .0) in omega (arith, eqb-false)))
