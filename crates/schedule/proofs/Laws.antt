@@ -9,14 +9,14 @@ use lib.ListN.{length, take, getD}
 use Rattle.lists.specs.Lists.{pad}
 use Rattle.lists.proofs.Listing.{length-listed}
 use Rattle.orders.specs.Orders.{shareFits}
-use Rattle.network.specs.Network.{n, m, δ, ε, link, survives, planRefusal, worst, bounds, FaultSet}
+use Rattle.network.specs.Network.{n, m, δ, ε, noLink, link, survives, planRefusal, worst, bounds, FaultSet}
 use Rattle.network.specs.declared.Link.{Link}
 use Rattle.schedule.specs.declared.Start.{Start}
 use Rattle.schedule.specs.declared.Schedule.{Schedule}
 use Rattle.schedule.specs.declared.Answer.the-variants.{Accepted}
 use Rattle.schedule.specs.declared.Found.{Found}
 use Rattle.schedule.specs.Shape.{links, starts, hosts, value}
-use Rattle.schedule.specs.Schedule.{linkAt, planOf, faultsOf, noStart, noLink, copyOf, scheduleOf}
+use Rattle.schedule.specs.Schedule.{linkAt, planOf, faultsOf, noStart, copyOf, scheduleOf}
 use Rattle.schedule.specs.Calls.{readRefusal, scheduleRead, says}
 use Rattle.schedule.proofs.Verdicts.{Right}
 use Rattle.schedule.proofs.Parts.{filled-long, unfilled-at, filled-first, fault-set, in-ranges, offset-at, nth, start-is, nth-by-end, nth-host, nth-share, nth-in-turn, fated-high, fated-lost, copy-in}

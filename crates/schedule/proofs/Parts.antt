@@ -16,7 +16,7 @@ use Rattle.lists.proofs.Places.{getD-pad, length-pad, take-pad}
 use Rattle.lists.proofs.Listing.{length-listed, getD-listed}
 use Rattle.lists.proofs.SearchLaws.{some-false, lastOf-is}
 use Rattle.lists.proofs.TestLaws.{all-each, none-each}
-use Rattle.orders.specs.Orders.{shareFits}
+use Rattle.orders.specs.Orders.{shareFits, wrongValue}
 use Rattle.orders.proofs.Laws.{of-fits, right-kind}
 use Rattle.network.specs.Network.{δ, survives, FaultSet}
 use Rattle.network.specs.declared.Plan.{Plan}
@@ -91,8 +91,10 @@ module _ (bs : List ℕ) where
     pub nth-share : (i : ℕ) → i < starts bs → shareFits (nth i .order) ≡ true
     nth-share i h =
         let at = value bs (firstStart bs + i) in
-        let w = not-true _ (all-each _ (start-fits bs accepted i h) .1 .1 .0) in
-        of-fits (getD bs (at + 3) 0) (right-kind (getD bs (at + 3) 0) (getD bs (at + 8) 0) w) (valAt bs (at + 4) 4) (getD bs (at + 8) 0) w
+        let share : at + 8 ≡ at + 3 + 5 = omega arith in
+        let fit = all-each _ (start-fits bs accepted i h) in
+        let w = not-true (wrongValue (getD bs (at + 3) 0) (getD bs (at + 3 + 5) 0)) (rw share at (fit .1 .1 .0)) in
+        of-fits (getD bs (at + 3) 0) (right-kind (getD bs (at + 3) 0) (getD bs (at + 3 + 5) 0) w) (valAt bs (at + 3 + 1) 4) (getD bs (at + 3 + 5) 0) w
 
     nth-next : (i : ℕ) → suc i < starts bs → nth i .tick .0 ≤ nth (suc i) .tick .0
     nth-next i h =

@@ -7,6 +7,7 @@ use clock::Tick;
 use orders::Order;
 ghost use mathlib.Core.Path.{_≡_};
 ghost use Prim.Native.Nat.{_≤_};
+ghost use Rattle.orders.specs.Orders.{orderAt};
 ghost use Rattle.schedule.specs.Schedule.{startAt, startsOf};
 ghost use Rattle.schedule.specs.Inside.{Run};
 
@@ -36,11 +37,18 @@ fn start_at(bytes: &[u8], at: usize) -> Start
     requires { ⌜ at ≤ 8195 ⌝ }
     ensures { λ r. ⌜ r ≡ startAt (now (bytes .entry)) at ⌝ }
 {
-    let image = fields::value_at(bytes, at + 4, 4) as u32;
-    let share = fields::byte_at(bytes, at + 8);
     Start {
         tick: tick_at(bytes, at),
         host: fields::byte_at(bytes, at + 2),
-        order: orders::order_of(fields::byte_at(bytes, at + 3), image, share),
+        order: order_at(bytes, at + 3),
     }
+}
+
+fn order_at(bytes: &[u8], at: usize) -> Order
+    requires { ⌜ at ≤ 8198 ⌝ }
+    ensures { λ r. ⌜ r ≡ orderAt (now (bytes .entry)) at ⌝ }
+{
+    let image = fields::value_at(bytes, at + 1, 4) as u32;
+    let share = fields::byte_at(bytes, at + 5);
+    orders::order_of(fields::byte_at(bytes, at), image, share)
 }

@@ -3,8 +3,8 @@ use borrow.Author.Needs.{needs}
 use native.Mathlib.Omega.{arith}
 use mathlib.Core.Path.{sym}
 use lib.ListN.{List·getD-eq-default}
-use Rattle.schedule.proofs.rules.link_of.Statement.{statement}
-use Rattle.schedule.proofs.rules.link_of.Tie as tie
+use Rattle.network.proofs.reach.link_of.Statement.{statement}
+use Rattle.network.proofs.reach.link_of.Tie as tie
 
 mul-result : tie.Need-mul-result
 mul-result c = search needs
@@ -16,7 +16,7 @@ returns : tie.Need-returns
 returns c = search needs
 
 returns-2 : tie.Need-returns-2
-returns-2 c = sym (List·getD-eq-default (c .before .args .t1) _ {n = c .before .args .link} (omega arith))
+returns-2 c = sym (List·getD-eq-default (c .before .args .t1) _ {n = c .before .args .i} (omega arith))
 
 pub link-of-spec : {M : Type 1} → statement M
 link-of-spec = tie.close (tie.spec mul-result array-copy-out-result returns returns-2)
