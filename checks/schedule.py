@@ -101,27 +101,38 @@ def outside(found, plan, links, faults, end):
     return None
 
 
-def line(data):
+def read(data):
+    """The line of a refusal and nothing, or nothing and what stands in an accepted schedule."""
     found = records(data)
     if not shaped(data, found):
-        return "refused 31"
+        return "refused 31", None
     of = {tag: [value for t, value in found if t == tag] for tag in range(16, 23)}
     plan, links = tuple(of[16][0]), [tuple(v) for v in of[17]]
     n, pi, big_l, delay, skew = plan
     refusal, d = planning(n, pi, big_l, delay, skew, links)
     if refusal:
-        return f"refused {refusal}"
+        return f"refused {refusal}", None
     faults = of[18][0][0], of[18][0][1] * 256 + of[18][0][2]
     end = int.from_bytes(of[20][0], "big")
     k = outside(found, plan, links, faults, end)
     if k is not None:
-        return f"refused 32 {k}"
+        return f"refused 32 {k}", None
+    starts = [(v[0] * 256 + v[1], v[2], v[3], int.from_bytes(v[4:8], "big"), v[8] if v[3] == 1 else 0) for v in of[21]]
+    fates = {(v[0], v[1], v[2]): v[3] for v in of[22]}
+    return None, dict(plan=plan, links=links, d=d, faults=faults, offsets=list(of[19][0]), end=end, starts=starts, fates=fates)
+
+
+def line(data):
+    refusal, s = read(data)
+    if refusal:
+        return refusal
+    (n, pi, _, delay, skew), links, d = s["plan"], s["links"], s["d"]
     bound = pi * delay + d * delay + skew
-    words = ["plan", n, pi, big_l, delay, skew, "links", len(links)] + [x for l in links + [(0, 0)] * (12 - len(links)) for x in l]
-    words += ["d", d, bound, bound + skew, "faults", *faults, "offsets"] + list(of[19][0]) + [0] * (8 - n) + ["end", end, "starts", len(of[21])]
-    for v in of[21]:
-        words += [v[0] * 256 + v[1], v[2], v[3], int.from_bytes(v[4:8], "big"), v[8] if v[3] == 1 else 0]
-    fates = sorted(((v[0] * 12 + v[1]) * 2 + v[2], v[3]) for v in of[22])
+    words = ["plan", *s["plan"], "links", len(links)] + [x for l in links + [(0, 0)] * (12 - len(links)) for x in l]
+    words += ["d", d, bound, bound + skew, "faults", *s["faults"], "offsets"] + s["offsets"] + [0] * (8 - n) + ["end", s["end"], "starts", len(s["starts"])]
+    for start in s["starts"]:
+        words += start
+    fates = sorted(((k * 12 + link) * 2 + direction, late) for (k, link, direction), late in s["fates"].items())
     words += ["delays"] + [x for fate in fates if fate[1] != 1 for x in fate]
     return " ".join(map(str, words))
 

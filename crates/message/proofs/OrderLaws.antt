@@ -13,14 +13,14 @@ use Rattle.lists.specs.Tests.{firstOf}
 use Rattle.lists.proofs.Bools.{and-right}
 use Rattle.lists.proofs.TestLaws.{none-pass}
 use Rattle.lists.proofs.ByteLaws.{Bytes, length-be, val-one, part, part-add, be-val, val-be}
-use Rattle.orders.specs.Orders.{kindOf, imageOf, shareOf, isKind, shareFits, orderBytes, sizeOf, wrongSize, wrongValue}
+use Rattle.orders.specs.Orders.{kindOf, imageOf, shareOf, isKind, shareFits, orderAt, orderBytes, sizeOf, wrongSize, wrongValue}
 use Rattle.orders.specs.declared.Order.{Order}
 use Rattle.orders.proofs.Laws.{kind-is, right-size, right-value, from-parts, of-bytes, of-fits, of-size, right-kind}
 use Rattle.fields.specs.Fields.{field, statedAt}
 use Rattle.fields.specs.declared.Verdict.the-variants.{Right}
 use Rattle.fields.proofs.Reading.{HeadIs, head-is, past-head}
 use Rattle.fields.proofs.Parts.{byte-part, field-part, front, after-head, length-front, stated-there, head-there}
-use Rattle.message.specs.Layout.{orderChecks, orderAt}
+use Rattle.message.specs.Layout.{orderChecks}
 use Rattle.message.proofs.WriteLaws.{size-small}
 
 -- ---- an order that was read writes back to its field

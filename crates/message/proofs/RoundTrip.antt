@@ -15,7 +15,7 @@ use Rattle.lists.proofs.Bools.{and-left, and-right}
 use Rattle.lists.proofs.TestLaws.{all-each, each-all}
 use Rattle.lists.proofs.ByteLaws.{Bytes, part, part-add}
 use Rattle.clock.specs.Clock.{largestStamp}
-use Rattle.orders.specs.Orders.{imageOf, shareFits, orderBytes}
+use Rattle.orders.specs.Orders.{imageOf, shareFits, orderAt, orderBytes}
 use Rattle.orders.specs.Rules.{isRules, hopFits}
 use Rattle.orders.specs.declared.Order.the-variants.{Halt}
 use Rattle.fields.specs.Fields.{field, numberAt, statedAt}
@@ -24,7 +24,7 @@ use Rattle.fields.specs.Slots.{filled, slotFields, numbersAt}
 use Rattle.fields.proofs.Checks.{Clear, clear-left, clear-both, clear-first}
 use Rattle.fields.proofs.Placing.{length-field}
 use Rattle.fields.proofs.SlotLaws.{AllGood, Within, slots-back, slots-within, slots-there}
-use Rattle.message.specs.Layout.{stampSlot, sourceSlot, hopSlot, slots, numbers, layout, orderPlace, ending, messageFields, orderAt, messageOf, foundAt}
+use Rattle.message.specs.Layout.{stampSlot, sourceSlot, hopSlot, slots, numbers, layout, orderPlace, ending, messageFields, messageOf, foundAt}
 use Rattle.message.specs.Calls.{inRange, readOf}
 use Rattle.message.specs.declared.Message.{Message}
 use Rattle.message.specs.declared.Found.{Found}

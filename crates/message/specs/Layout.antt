@@ -5,10 +5,9 @@ use mathlib.Core.List.{List, [], _∷_, _++_}
 use Prim.Native.Nat.{ℕ, _+_}
 use lib.Dec.{ltb, eqb}
 use lib.ListN.{length, getD}
-use Rattle.lists.specs.Bytes.{valAt}
 use Rattle.lists.specs.Lists.{flat}
 use Rattle.clock.specs.Clock.{largestStamp}
-use Rattle.orders.specs.Orders.{orderOf, orderBytes, wrongSize, wrongValue}
+use Rattle.orders.specs.Orders.{orderAt, orderBytes, wrongSize, wrongValue}
 use Rattle.orders.specs.declared.Order.{Order}
 use Rattle.fields.specs.Fields.{field, statedAt, checks}
 use Rattle.fields.specs.Slots.{span, filled, slotFields, numbersAt}
@@ -55,9 +54,6 @@ abbrev pub messageFields : ℕ → List ℕ → List (ℕ × List (ℕ × Bool))
 messageFields rules bs = slotFields bs 0 (slots rules) ++ ending bs (orderPlace rules)
 
 -- ---- the message that stands in bytes with no fault
-
-abbrev pub orderAt : List ℕ → ℕ → Order
-orderAt bs at = orderOf (getD bs at 0) (valAt bs (at + 1) 4) (getD bs (at + 5) 0)
 
 -- the hop is 0 where no slot holds it
 abbrev pub messageOf : List ℕ → Order → Message

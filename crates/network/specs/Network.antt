@@ -35,8 +35,11 @@ abbrev pub δ : Plan → ℕ
 abbrev pub ε : Plan → ℕ
 ε p = p .skew
 
+abbrev pub noLink : Link
+noLink = record { a = 0; b = 0 }
+
 abbrev pub link : Plan → ℕ → Link
-link p i = getD (p .links) i (record { a = 0; b = 0 })
+link p i = getD (p .links) i noLink
 
 -- refusal 1: "a plan number is out of range"
 unfoldable pub inRange : Plan → Bool

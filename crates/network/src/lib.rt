@@ -8,6 +8,7 @@ mod sets;
 mod worst;
 
 pub use proper::is_proper;
+pub use reach::link_survives;
 pub use rules::bound;
 pub use rules::window;
 pub use sets::is_in;

@@ -1,5 +1,6 @@
 // The hosts within k links of a host, over the links that survive.
 use crate::Faults;
+use crate::Link;
 use crate::Plan;
 use crate::sets::is_in;
 use crate::sets::put;
@@ -8,8 +9,9 @@ ghost use mathlib.Core.Path.{_≡_};
 ghost use mathlib.Core.Bool.{_||_};
 ghost use Prim.Native.Nat.{ℕ, _<_};
 ghost use lib.Dec.{eqb};
+ghost use lib.ListN.{getD};
 ghost use Rattle.lists.specs.Searches.{some};
-ghost use Rattle.network.specs.Network.{m, has, survives, via, within};
+ghost use Rattle.network.specs.Network.{m, noLink, has, survives, via, within};
 ghost use Rattle.network.specs.Inside.{Small};
 
 // The set of hosts within k links of b.
@@ -56,11 +58,22 @@ fn step(p: Plan, f: Faults, near: u32, out: u32, i: u8) -> u32
     }
 }
 
-fn link_survives(p: Plan, f: Faults, i: u8) -> bool
-    requires { ⌜ i < 12 ⌝ }
+// Whether neither link i nor one of its ends is faulty; a number that has no place is the zero link's.
+pub fn link_survives(p: Plan, f: Faults, i: u8) -> bool
     ensures { λ r. ⌜ r ≡ survives p f i ⌝ }
 {
-    let at = i as usize;
-    let l = p.links[at];
+    let links = p.links;
+    let l = link_of(links, i);
     !is_in(f.links, i) & !is_in(f.hosts, l.a) & !is_in(f.hosts, l.b)
+}
+
+fn link_of(links: [Link; 12], i: u8) -> Link
+    ensures { λ r. ⌜ r ≡ getD links i noLink ⌝ }
+{
+    let at = i as usize;
+    if at < 12 {
+        links[at]
+    } else {
+        Link { a: 0, b: 0 }
+    }
 }

@@ -1,9 +1,10 @@
 -- An order and its bytes (01, "A host's calls" and "The message"; 02 §1 for what can be wrong with the bytes). Assumes nothing.
 use mathlib.Core.Bool.{Bool, cond, not, _&&_, _||_}
 use mathlib.Core.List.{List, [], _++_}
-use Prim.Native.Nat.{ℕ}
+use Prim.Native.Nat.{ℕ, _+_}
 use lib.Dec.{leb, eqb}
-use Rattle.lists.specs.Bytes.{be}
+use lib.ListN.{getD}
+use Rattle.lists.specs.Bytes.{be, valAt}
 use Rattle.orders.specs.declared.Order.{Order}
 use Rattle.orders.specs.declared.Order.the-variants.{Publish, Halt, Resume, Withdraw}
 
@@ -46,6 +47,10 @@ abbrev pub orderOf : ℕ → ℕ → ℕ → Order
 orderOf kind image share =
     cond (eqb kind 1) (Publish image share)
     (cond (eqb kind 2) (Halt image) (cond (eqb kind 3) (Resume image) (cond (eqb kind 4) (Withdraw image) (Publish 0 0))))
+
+-- the order in the bytes from a place on
+abbrev pub orderAt : List ℕ → ℕ → Order
+orderAt bs at = orderOf (getD bs at 0) (valAt bs (at + 1) 4) (getD bs (at + 5) 0)
 
 -- "order (kind, image, and share for publish; 6 or 5 bytes)"
 unfoldable pub orderBytes : Order → List ℕ

@@ -2,4 +2,7 @@
 pub mod Walks
 pub mod Tallies
 pub mod Verdicts
+pub mod Records
+pub mod Parts
+pub mod Laws
 pub mod One

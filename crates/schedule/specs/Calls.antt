@@ -5,12 +5,12 @@ use Prim.Native.Nat.{ℕ}
 use lib.Dec.{ltb, eqb}
 use lib.ListN.{replicate}
 use Rattle.lists.specs.Tests.{firstOf}
-use Rattle.network.specs.Network.{planTests}
+use Rattle.network.specs.Network.{noLink, planTests}
 use Rattle.schedule.specs.declared.Answer.{Answer}
 use Rattle.schedule.specs.declared.Answer.the-variants.{Accepted, NotASchedule, OutOfRange, BadLink, Parted, OutsideRules}
 use Rattle.schedule.specs.declared.Schedule.{Schedule}
 use Rattle.schedule.specs.Shape.{records, isSchedule}
-use Rattle.schedule.specs.Schedule.{planOf, scheduleOf, noLink, noStart}
+use Rattle.schedule.specs.Schedule.{planOf, scheduleOf, noStart}
 use Rattle.schedule.specs.Rules.{firstOutside}
 
 -- "is 31; then 1 to 3; then 32"

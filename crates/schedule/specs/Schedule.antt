@@ -7,9 +7,9 @@ use Rattle.lists.specs.Bytes.{valAt}
 use Rattle.lists.specs.Lists.{pad, listed}
 use Rattle.lists.specs.Searches.{lastOf}
 use Rattle.clock.specs.declared.Tick.{Tick}
-use Rattle.orders.specs.Orders.{orderOf}
+use Rattle.orders.specs.Orders.{orderAt}
 use Rattle.orders.specs.declared.Order.the-variants.{Publish}
-use Rattle.network.specs.Network.{worst, bounds}
+use Rattle.network.specs.Network.{noLink, worst, bounds}
 use Rattle.network.specs.declared.Link.{Link}
 use Rattle.network.specs.declared.Plan.{Plan}
 use Rattle.network.specs.declared.Faults.{Faults}
@@ -22,9 +22,6 @@ use Rattle.schedule.specs.Shape.{place, records, links, starts, hosts, v
 -- "17 one per link (a, b)"
 abbrev pub linkAt : List ℕ → ℕ → Link
 linkAt bs at = record { a = getD bs at 0; b = getD bs (at + 1) 0 }
-
-abbrev pub noLink : Link
-noLink = record { a = 0; b = 0 }
 
 abbrev pub linksOf : List ℕ → ℕ → List Link
 linksOf bs m = pad 12 noLink (listed m (λ i. linkAt bs (value bs (1 + i))))
@@ -60,7 +57,7 @@ tickAt bs at = record { 0 = valAt bs at 2 }
 
 -- "21 one per start (tick 2, host 1, order 5 or 6)"
 abbrev pub startAt : List ℕ → ℕ → Start
-startAt bs at = record { tick = tickAt bs at; host = getD bs (at + 2) 0; order = orderOf (getD bs (at + 3) 0) (valAt bs (at + 4) 4) (getD bs (at + 8) 0) }
+startAt bs at = record { tick = tickAt bs at; host = getD bs (at + 2) 0; order = orderAt bs (at + 3) }
 
 abbrev pub noStart : Start
 noStart = record { tick = record { 0 = 0 }; host = 0; order = Publish 0 0 }

@@ -1,6 +1,8 @@
 // A schedule, read from any bytes: the plan, the fault set, the clocks' offsets, the starts and the delay of each copy; or what is wrong first.
+mod fates;
 mod rules;
 mod shape;
+mod starts;
 mod taking;
 
 use clock::Tick;
@@ -126,7 +128,7 @@ fn refused(answer: Answer) -> Found
         offsets: [0; 8],
         end: Tick(0),
         start_count: 0,
-        starts: [taking::NO_START; 16],
+        starts: [starts::NO_START; 16],
         delays: [0; 384],
     };
     Found { answer, schedule }

@@ -1,18 +1,13 @@
 // The rules of a schedule (refusal 32).
+use crate::fates::copy_at;
 use crate::shape::next;
-use crate::taking::NO_LINK;
-use crate::taking::copy_at;
 use crate::taking::tick_at;
 use clock::Tick;
 use network::Faults;
-use network::Link;
 use network::Plan;
 ghost use mathlib.Core.Path.{_≡_};
 ghost use Prim.Native.Nat.{_+_, _≤_};
-ghost use lib.ListN.{getD};
 ghost use Rattle.lists.specs.Searches.{least};
-ghost use Rattle.network.specs.Network as net;
-ghost use Rattle.schedule.specs.Schedule.{noLink};
 ghost use Rattle.schedule.specs.Rules.{faultsWithin, offsetsOut, startOut, fateOut, outAt, outside};
 ghost use Rattle.schedule.specs.Inside.{Run, InNumbers};
 
@@ -103,25 +98,6 @@ fn fate_out(bytes: &[u8], before: usize, at: usize, plan: Plan, faults: Faults) 
     let copy = copy_at(bytes, at + 3);
     let last = copy_at(bytes, before + 3);
     (delay > plan.delay)
-        | ((delay == 0) & survives(plan, faults, link))
+        | ((delay == 0) & network::link_survives(plan, faults, link))
         | ((fields::byte_at(bytes, before) == 22) & (copy <= last))
-}
-
-// Whether neither the link nor one of its ends is faulty.
-fn survives(plan: Plan, faults: Faults, link: u8) -> bool
-    ensures { λ r. ⌜ r ≡ net.survives plan faults link ⌝ }
-{
-    let links = plan.links;
-    let ends = link_of(links, link);
-    !network::is_in(faults.links, link)
-        & !network::is_in(faults.hosts, ends.a)
-        & !network::is_in(faults.hosts, ends.b)
-}
-
-// A link by its number, and the zero link of a number that has no place.
-fn link_of(links: [Link; 12], link: u8) -> Link
-    ensures { λ r. ⌜ r ≡ getD links link noLink ⌝ }
-{
-    let at = link as usize;
-    if at < 12 { links[at] } else { NO_LINK }
 }

@@ -1,28 +1,21 @@
 // The schedule that stands in the records.
 use crate::Schedule;
-use crate::Start;
+use crate::fates::delays_of;
 use crate::shape::Tally;
 use crate::shape::next;
+use crate::starts::starts_of;
 use clock::Tick;
 use network::Bounds;
 use network::Faults;
 use network::Link;
 use network::Plan;
-use orders::Order;
 ghost use mathlib.Core.Path.{_≡_};
 ghost use Prim.Native.Nat.{_+_, _≤_};
-ghost use lib.ListN.{set};
 ghost use Rattle.schedule.specs.Shape.{place, records, value};
-ghost use Rattle.schedule.specs.Schedule.{linkAt, linksOf, planOf, faultsAt, offsetsAt, tickAt, startAt, startsOf, copyAt, delaysOf, scheduleOf};
+ghost use Rattle.schedule.specs.Schedule.{linkAt, linksOf, planOf, faultsAt, offsetsAt, tickAt, scheduleOf};
 ghost use Rattle.schedule.specs.Inside.{Shaped, Judged, Run};
 
 pub(crate) const NO_LINK: Link = Link { a: 0, b: 0 };
-
-pub(crate) const NO_START: Start = Start {
-    tick: Tick(0),
-    host: 0,
-    order: Order::Publish { image: 0, share: 0 },
-};
 
 pub(crate) fn plan_of(bytes: &[u8], t: Tally) -> Plan
     requires { ⌜ Shaped (now bytes) t ⌝ }
@@ -96,7 +89,7 @@ fn value_of(bytes: &[u8], k: usize) -> usize
 }
 
 // Where record k begins.
-fn place_of(bytes: &[u8], k: usize) -> usize
+pub(crate) fn place_of(bytes: &[u8], k: usize) -> usize
     requires { ⌜ Run (now bytes) 0 k ⌝ }
     ensures { λ r. ⌜ r ≡ place (now (bytes .entry)) k ⌝ }
 {
@@ -137,73 +130,4 @@ pub(crate) fn tick_at(bytes: &[u8], at: usize) -> Tick
     ensures { λ r. ⌜ r ≡ tickAt (now (bytes .entry)) at ⌝ }
 {
     Tick(fields::value_at(bytes, at, 2))
-}
-
-// The starts from record `first` on.
-fn starts_of(bytes: &[u8], first: usize, count: usize) -> [Start; 16]
-    requires { ⌜ (count ≤ 16) × Run (now bytes) first count ⌝ }
-    ensures { λ r. ⌜ r ≡ startsOf (now (bytes .entry)) first count ⌝ }
-{
-    let mut starts = [NO_START; 16];
-    let mut at = place_of(bytes, first);
-    let mut i: usize = 0;
-    while i < count {
-        starts[i] = start_at(bytes, at + 3);
-        at = next(bytes, at);
-        i += 1;
-    }
-    starts
-}
-
-fn start_at(bytes: &[u8], at: usize) -> Start
-    requires { ⌜ at ≤ 8195 ⌝ }
-    ensures { λ r. ⌜ r ≡ startAt (now (bytes .entry)) at ⌝ }
-{
-    let image = fields::value_at(bytes, at + 4, 4) as u32;
-    let share = fields::byte_at(bytes, at + 8);
-    Start {
-        tick: tick_at(bytes, at),
-        host: fields::byte_at(bytes, at + 2),
-        order: orders::order_of(fields::byte_at(bytes, at + 3), image, share),
-    }
-}
-
-// The delay of each copy by the fates from record `first` on.
-fn delays_of(bytes: &[u8], first: usize, count: usize) -> [u8; 384]
-    requires { ⌜ Run (now bytes) first count ⌝ }
-    ensures { λ r. ⌜ r ≡ delaysOf (now (bytes .entry)) first count ⌝ }
-{
-    let mut delays = [1u8; 384];
-    let mut at = place_of(bytes, first);
-    let mut i: usize = 0;
-    while i < count {
-        set_delay(
-            &mut delays,
-            copy_at(bytes, at + 3),
-            fields::byte_at(bytes, at + 6),
-        );
-        at = next(bytes, at);
-        i += 1;
-    }
-    delays
-}
-
-// One delay set; a number past the last copy is no copy.
-fn set_delay(delays: &mut [u8], copy: usize, delay: u8)
-    ensures { λ _. ⌜ now (delays .exit) ≡ set (now (delays .entry)) copy delay ⌝ }
-{
-    if copy < delays.len() {
-        delays[copy] = delay;
-    }
-}
-
-// The copy of the fate whose value begins at a place.
-pub(crate) fn copy_at(bytes: &[u8], at: usize) -> usize
-    requires { ⌜ at ≤ 8195 ⌝ }
-    ensures { λ r. ⌜ r ≡ copyAt (now (bytes .entry)) at ⌝ }
-{
-    let start = fields::byte_at(bytes, at) as usize;
-    let link = fields::byte_at(bytes, at + 1) as usize;
-    let direction = fields::byte_at(bytes, at + 2) as usize;
-    (start * 12 + link) * 2 + direction
 }

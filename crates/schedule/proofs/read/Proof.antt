@@ -13,7 +13,7 @@ refused-requires : tie.Need-refused-requires
 refused-requires c κs = search needs
 
 returns : tie.Need-returns
-returns c = let bs = now (c .before .before .before .args .bytes) in right-misshapen bs (c .refused .result) NotASchedule (c .refused .ensures) refl (too-long bs (c .before .if1 .taken))
+returns c = let bs = now (c .before .before .before .args .bytes) in right-misshapen bs (c .refused .result) NotASchedule (c .refused .ensures) refl (too-long bs (omega (arith, c .before .if1 .taken)))
 
 tally-of-requires : tie.Need-tally-of-requires
 tally-of-requires c κs = omega arith

@@ -19,7 +19,7 @@ refused-requires : tie.Need-refused-requires
 refused-requires c κs = search needs
 
 returns : tie.Need-returns
-returns c = let a = c .before .before .before .before .before .before .before .before .args in let bs = now (a .bytes) in let p = c .before .before .before .before .before .before .before .before .pre in let q = first-is bs (a .t) (a .plan) (a .bounds) (c .before .before .before .before .before .before .schedule-of .result) (c .before .before .before .first-outside .result) p (c .before .before .before .before .before .before .schedule-of .ensures) (c .before .before .before .first-outside .ensures) in right-outside bs (p .shaped .shape) (sym (ap planRefusal (p .plan-is)) ∙ p .clear) (c .refused .result) (c .before .before .before .first-outside .result) (c .refused .ensures) q (omega (arith, p .shaped .counted .records-are))
+returns c = let a = c .before .before .before .before .before .before .before .before .args in let bs = now (a .bytes) in let p = c .before .before .before .before .before .before .before .before .pre in let q = first-is bs (a .t) (a .plan) (a .bounds) (c .before .before .before .before .before .before .schedule-of .result) (c .before .before .before .first-outside .result) p (c .before .before .before .before .before .before .schedule-of .ensures) (c .before .before .before .first-outside .ensures) in right-outside bs (p .shaped .shape) (sym (ap planRefusal (p .plan-is)) ∙ p .clear) (c .refused .result) _ (c .refused .ensures) (omega (arith, q)) (omega (arith, p .shaped .counted .records-are))
 
 returns-2 : tie.Need-returns-2
 returns-2 c = let a = c .before .before .before .before .before .before .before .args in let bs = now (a .bytes) in let p = c .before .before .before .before .before .before .before .pre in let q = first-is bs (a .t) (a .plan) (a .bounds) (c .before .before .before .before .before .schedule-of .result) (c .before .before .first-outside .result) p (c .before .before .before .before .before .schedule-of .ensures) (c .before .before .first-outside .ensures) in right-accepted bs (p .shaped .shape) (sym (ap planRefusal (p .plan-is)) ∙ p .clear) (c .before .before .before .before .before .schedule-of .result) (c .before .before .before .before .before .schedule-of .ensures) (omega (arith, p .shaped .counted .records-are))

@@ -5,11 +5,8 @@ use Rattle.network.specs.Network.{survives}
 use Rattle.network.proofs.reach.link_survives.Statement.{statement}
 use Rattle.network.proofs.reach.link_survives.Tie as tie
 
-mul-l : tie.Need-mul-l
-mul-l c = search needs
-
-element-copy-out-l : tie.Need-element-copy-out-l
-element-copy-out-l c = search needs
+link-of-requires : tie.Need-link-of-requires
+link-of-requires c κs = search needs
 
 is-in-requires : tie.Need-is-in-requires
 is-in-requires c κs = search needs
@@ -22,9 +19,8 @@ is-in-requires-3 c κs = search needs
 
 returns : tie.Need-returns
 unfolding survives
-returns c = simp (c .before .before .is-in .ensures, c .before .is-in2 .ensures, c .is-in3 .ensures) (all-chain _ _)
+returns c = simp (c .before .before .is-in .ensures, c .before .is-in2 .ensures, c .is-in3 .ensures, c .before .before .before .link-of .ensures) (all-chain _ _)
 
 pub link-survives-spec : {M : Type 1} → statement M
 link-survives-spec =
-    tie.close
-    (tie.spec mul-l element-copy-out-l is-in-requires is-in-requires-2 is-in-requires-3 returns)
+    tie.close (tie.spec link-of-requires is-in-requires is-in-requires-2 is-in-requires-3 returns)

@@ -28,14 +28,14 @@ add-copy-at-2 c = search needs
 copy-at-requires-2 : tie.Need-copy-at-requires-2
 copy-at-requires-2 c κs = search needs
 
-survives-requires : tie.Need-survives-requires
-survives-requires c κs = search needs
+link-survives-requires : tie.Need-link-survives-requires
+link-survives-requires c κs = search needs
 
 byte-at-requires-3 : tie.Need-byte-at-requires-3
 byte-at-requires-3 c κs = search needs
 
 returns : tie.Need-returns
-returns c = simp (c .before .before .before .before .before .before .byte-at .ensures, c .before .before .before .before .before .byte-at2 .ensures, c .before .before .before .before .copy-at .ensures, c .before .before .before .copy-at2 .ensures, c .before .survives .ensures, c .byte-at3 .ensures) (any-chain _ _)
+returns c = simp (c .before .before .before .before .before .before .byte-at .ensures, c .before .before .before .before .before .byte-at2 .ensures, c .before .before .before .before .copy-at .ensures, c .before .before .before .copy-at2 .ensures, c .before .link-survives .ensures, c .byte-at3 .ensures) (any-chain _ _)
 
 pub fate-out-spec : {M : Type 1} → statement M
 fate-out-spec =
@@ -49,6 +49,6 @@ fate-out-spec =
     copy-at-requires
     add-copy-at-2
     copy-at-requires-2
-    survives-requires
+    link-survives-requires
     byte-at-requires-3
     returns)

@@ -7,7 +7,8 @@ use denote.Ref.{now}
 use Rattle.lists.proofs.Listing.{fill-start, fill-next}
 use Rattle.lists.proofs.SearchLaws.{at-end}
 use Rattle.schedule.specs.Shape.{place, value}
-use Rattle.schedule.specs.Schedule.{linkAt, linksOf, noLink}
+use Rattle.network.specs.Network.{noLink}
+use Rattle.schedule.specs.Schedule.{linkAt, linksOf}
 use Rattle.schedule.proofs.Walks.{place-start, place-step, place-after, in-run}
 use Rattle.schedule.proofs.taking.links_of.Statement.{statement}
 use Rattle.schedule.proofs.taking.links_of.Tie as tie
