@@ -3,6 +3,7 @@ use mathlib.Core.Path.{_≡_, refl, sym, ap, _∙_}
 use mathlib.Core.Bool.{true, false, true≢false}
 use mathlib.Core.List.{List}
 use Prim.Native.Nat.{ℕ, _+_, _≤_, _<_}
+use native.Mathlib.Decide.{decLt}
 use native.Mathlib.Omega.{arith}
 use borrow.Author.Tests.{eq-eqb}
 use lib.ListN.{length, take, getD}
@@ -11,6 +12,8 @@ use Rattle.lists.proofs.Listing.{length-listed}
 use Rattle.orders.specs.Orders.{shareFits}
 use Rattle.network.specs.Network.{n, m, δ, ε, noLink, link, survives, planRefusal, worst, bounds, FaultSet}
 use Rattle.network.specs.declared.Link.{Link}
+use Rattle.network.proofs.Answers.{fine}
+use Rattle.network.proofs.Ranges.{Ranges, ranges, ends}
 use Rattle.schedule.specs.declared.Start.{Start}
 use Rattle.schedule.specs.declared.Schedule.{Schedule}
 use Rattle.schedule.specs.declared.Answer.the-variants.{Accepted}
@@ -96,3 +99,30 @@ accepted-within bs r e a = let z : readRefusal bs ≡ 0 = sym (ap (λ (x : ℕ �
 -- a copy that touches nothing faulty arrives
 pub not-lost : (s : Schedule) → Within s → (k l b : ℕ) → k < 16 → l < 12 → b < 2 → survives (s .plan) (s .faults) l ≡ true → 1 ≤ delayIn s k l b
 not-lost s w k l b x y z e = let no : delayIn s k l b ≡ 0 → ⊥ = λ q. true≢false (sym e ∙ w .lost k l b x y z q) in omega arith
+
+-- ---- of every number, also of a place that is not used
+
+module _ (s : Schedule) (w : Within s) where
+  pub plan-ranges : Ranges (s .plan)
+  plan-ranges = ranges (s .plan) (fine (s .plan) (w .clear) .ranges)
+
+  pub any-ends : (i : ℕ) → (link (s .plan) i .a < 8) × (link (s .plan) i .b < 8)
+  any-ends i = go (decLt i (m (s .plan)))
+    where
+      go : Dec (i < m (s .plan)) → (link (s .plan) i .a < 8) × (link (s .plan) i .b < 8)
+      go (yes h) = let e = ends (s .plan) (fine (s .plan) (w .clear) .links) i h in (omega (arith, plan-ranges .hosts-high), omega (arith, plan-ranges .hosts-high))
+      go (no h) = rw (w .link-none i (omega arith)) (omega arith, omega arith)
+
+  pub any-host : (k : ℕ) → startOf s k .host < 8
+  any-host k = go (decLt k (s .«start_count»))
+    where
+      go : Dec (k < s .«start_count») → startOf s k .host < 8
+      go (yes h) = omega (arith, w .start-host k h, plan-ranges .hosts-high)
+      go (no h) = rw (w .start-none k (omega arith)) (omega arith)
+
+  pub any-tick : (k : ℕ) → startOf s k .tick .0 ≤ s .end .0
+  any-tick k = go (decLt k (s .«start_count»))
+    where
+      go : Dec (k < s .«start_count») → startOf s k .tick .0 ≤ s .end .0
+      go (yes h) = w .start-by-end k h
+      go (no h) = rw (w .start-none k (omega arith)) (omega arith)
