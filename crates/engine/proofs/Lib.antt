@@ -9,3 +9,4 @@ pub mod Kept
 pub mod Steps
 pub mod Worlds
 pub mod Plays
+pub mod Runs

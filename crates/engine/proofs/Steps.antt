@@ -51,8 +51,11 @@ module _ (s : Schedule) (p : ℕ) (a : Station) (k : Kept s p a) (u : Reading) w
   abbrev h : Host
   h = a .host
 
+  abbrev both : Host → Log → Station
+  both g l = record { host = g; log = l }
+
   abbrev with-host : Host → Station
-  with-host g = record { host = g; log = a .log }
+  with-host g = both g (a .log)
 
   -- a call that takes x
   takes : (c : Call) (x : Held) → heldOf (after h u c) ≡ insert before x (heldOf h) → any (sameName x) (heldOf h) ≡ false
@@ -135,7 +138,8 @@ module _ (s : Schedule) (p : ℕ) (a : Station) (k : Kept s p a) (u : Reading) w
           let none : delivered h u ≡ [] = ap (λ (t : Bool). cond t (dueOf h (u .0)) []) e in
           let log : logOf (listOf (a .log) ++ map (delivery u) (delivered h u)) ≡ a .log =
           ap (λ (l : List Held). logOf (listOf (a .log) ++ map (delivery u) l)) none ∙ ap logOf (append-nil (listOf (a .log))) ∙ sym (k .set-out) in
-          let same : ticked u a ≡ a = cc (host, log) in
+          let same : ticked u a ≡ a =
+          ap (λ (g : Host). both g (logOf (listOf (a .log) ++ map (delivery u) (delivered h u)))) host ∙ ap (both h) log in
           rw same k
       go true e =
           let clear : refusal h (u .0) c ≡ 0 = eqb-true _ _ e in

@@ -35,18 +35,18 @@ abbrev pub noStation : Station
 noStation =
     record {
       host =
-        record {
-          plan = record { hosts = 0; «faulty_hosts» = 0; «link_count» = 0; «faulty_links» = 0; delay = 0; skew = 0; links = [] };
-          rules = 0;
-          d = 0;
-          bound = 0;
-          own = 0;
-          last = record { 0 = 0 };
-          started = 0;
-          starts = [];
-          held = 0;
-          history = [];
-        };
+          record {
+            plan = record { hosts = 0; «faulty_hosts» = 0; «link_count» = 0; «faulty_links» = 0; delay = 0; skew = 0; links = [] };
+            rules = 0;
+            d = 0;
+            bound = 0;
+            own = 0;
+            last = record { 0 = 0 };
+            started = 0;
+            starts = [];
+            held = 0;
+            history = [];
+          };
       log = record { count = 0; entries = [] };
     }
 
