@@ -1,0 +1,2 @@
+// test
+pub fn f() -> u8 { 1 }
