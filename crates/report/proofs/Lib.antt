@@ -1,0 +1,3 @@
+-- The laws of the report's text and of its writers.
+pub mod Writing
+pub mod Sizes

@@ -1,0 +1,28 @@
+-- The test is the definition's. Assumes nothing.
+use borrow.Author.Tests.{eq-eqb, ne-eqb}
+use Rattle.report.specs.Text.{item}
+use Rattle.report.proofs.Writing.{wrote-none}
+use borrow.Author.Needs.{needs}
+use Rattle.report.proofs.lines.index_item.Statement.{statement}
+use Rattle.report.proofs.lines.index_item.Tie as tie
+
+slice-aggregate-item : tie.Need-slice-aggregate-item
+slice-aggregate-item c = search needs
+
+item-requires : tie.Need-item-requires
+item-requires c κs = search needs
+
+same-length : tie.Need-same-length
+same-length c = search needs
+
+returns : tie.Need-returns
+unfolding item
+returns c = rw (eq-eqb _ _ (c .before .before .before .before .before .if1 .taken)) (c .before .before .item .ensures)
+
+returns-2 : tie.Need-returns-2
+unfolding item
+returns-2 c = rw (ne-eqb _ _ (c .if1 .left)) (wrote-none _ _)
+
+pub index-item-spec : {M : Type 1} → statement M
+index-item-spec =
+    tie.close (tie.spec slice-aggregate-item item-requires same-length returns returns-2)
