@@ -1,3 +1,4 @@
 -- The laws of the report's text and of its writers.
 pub mod Writing
 pub mod Sizes
+pub mod Reports

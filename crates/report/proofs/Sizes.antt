@@ -13,8 +13,10 @@ use Rattle.lists.specs.Lists.{flat, listed}
 use Rattle.orders.specs.declared.Order.{Order}
 use Rattle.orders.specs.declared.Order.the-variants.{Publish, Halt, Resume, Withdraw}
 use Rattle.host.specs.declared.Held.{Held}
+use Rattle.engine.specs.Run.{noDelivery, noLog}
 use Rattle.engine.specs.declared.Delivery.{Delivery}
-use Rattle.report.specs.Text.{word, digits, item, line, orderText, heldText, deliveryLine, startLine}
+use Rattle.engine.specs.declared.Log.{Log}
+use Rattle.report.specs.Text.{word, digits, item, line, orderText, heldText, deliveryLine, startLine, startsText, hostText, hostsText}
 use Rattle.report.proofs.Writing.{flat-more}
 
 pub length-digits : (k x : ℕ) → length (digits k x) ≤ k
@@ -83,3 +85,17 @@ pieces-size f (suc n) b h =
 pub index-size : (t : Bool) (x : ℕ) → length (cond t (item " " x) []) ≤ 21
 index-size true x = omega (arith, item-size " " x)
 index-size false x = omega arith
+
+pub starts-size : (count : ℕ) (refusals : List ℕ) → length (startsText count refusals) ≤ count * 56
+starts-size count refusals = pieces-size (λ k. startLine k (getD refusals k 0)) count 56 (λ k h. start-size k (getD refusals k 0))
+
+pub deliveries-size : (host count : ℕ) (entries : List Delivery) → host < 10
+    → length (flat (listed count (λ i. deliveryLine host (getD entries i noDelivery)))) ≤ count * 134
+deliveries-size host count entries l =
+    pieces-size (λ i. deliveryLine host (getD entries i noDelivery)) count 134 (λ i h. delivery-size host (getD entries i noDelivery) l)
+
+pub hosts-size : (count : ℕ) (logs : List Log) → count ≤ 8 → ((h : ℕ) → h < 8 → getD logs h noLog .count ≤ 16) → length (hostsText count logs) ≤ count * 2144
+hosts-size count logs few short =
+    pieces-size (λ h. hostText h (getD logs h noLog)) count 2144
+    (λ h l. omega
+    (arith, deliveries-size h (getD logs h noLog .count) (getD logs h noLog .entries) (omega arith), short h (omega arith)))

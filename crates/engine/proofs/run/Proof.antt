@@ -4,13 +4,17 @@ use Prim.Native.Nat.{ℕ, _≤_, _<_}
 use native.Mathlib.Omega.{arith}
 use lib.Dec.{lit≤}
 use lib.ListN.{getD, replicate, getD-replicate}
-use Rattle.engine.specs.Run.{outcomeOf, noLog}
+use Rattle.engine.specs.Run.{outcomeOf, noDelivery, noLog}
+use Rattle.engine.specs.declared.Log.{Log}
 use borrow.Author.Needs.{needs}
 use Rattle.engine.proofs.run.Statement.{statement}
 use Rattle.engine.proofs.run.Tie as tie
 
-few : (h : ℕ) → h < 8 → getD (replicate 8 noLog) h noLog .count ≤ 16
-few h k = rw (getD-replicate 8 h noLog noLog k) (lit≤ tt)
+abbrev empty : Log
+empty = record { count = 0; entries = replicate 16 noDelivery }
+
+few : (h : ℕ) → h < 8 → getD (replicate 8 empty) h noLog .count ≤ 16
+few h k = rw (getD-replicate 8 h empty noLog k) (lit≤ tt)
 
 read-requires : tie.Need-read-requires
 read-requires c κs = search needs

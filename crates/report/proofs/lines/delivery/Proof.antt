@@ -20,12 +20,12 @@ item-requires-2 : tie.Need-item-requires-2
 item-requires-2 c κs = let a = c .before .before .before .before .before .before .before .before .before .before .args in omega (arith, c .before .before .before .before .item .ensures .end, length-digit (a .host) (c .before .before .before .before .before .before .before .before .before .before .pre .0))
 
 held-requires : tie.Need-held-requires
-held-requires c κs = 
+held-requires c κs =
     let a = c .before .before .before .before .before .before .before .before .before .before .before .before .before .before .args in
     omega (arith, c .before .before .before .before .before .before .before .before .item .ensures .end, c .before .before .before .item2 .ensures .end, length-digit (a .host) (c .before .before .before .before .before .before .before .before .before .before .before .before .before .before .pre .0), length-digits 20 (a .d .at .0))
 
 put-requires : tie.Need-put-requires
-put-requires c κs = 
+put-requires c κs =
     let a = c .before .before .before .before .before .before .before .before .before .before .before .before .before .before .before .before .before .before .args in
     omega
     (arith, c .before .before .before .before .before .before .before .before .before .before .before .before .item .ensures .end, c .before .before .before .before .before .before .before .item2 .ensures .end, c .before .before .before .held .ensures .end, length-digit (a .host) (c .before .before .before .before .before .before .before .before .before .before .before .before .before .before .before .before .before .before .pre .0), length-digits 20 (a .d .at .0), held-size (a .d .what))
@@ -35,7 +35,7 @@ same-length c = search needs
 
 returns : tie.Need-returns
 unfolding item deliveryLine
-returns c = 
+returns c =
     wrote-then (wrote-then (wrote-then (c .before .before .before .before .before .before .before .before .before .before .before .before .before .before .before .item .ensures) (c .before .before .before .before .before .before .before .before .before .before .item2 .ensures)) (c .before .before .before .before .before .before .held .ensures)) (c .before .before .put .ensures)
 
 pub delivery-spec : {M : Type 1} → statement M

@@ -18,7 +18,7 @@ index-item-requires : tie.Need-index-item-requires
 index-item-requires c κs = omega (arith, c .before .before .before .item .ensures .end, length-digits 20 (c .before .before .before .before .before .before .before .args .number))
 
 put-requires : tie.Need-put-requires
-put-requires c κs = 
+put-requires c κs =
     let a = c .before .before .before .before .before .before .before .before .before .before .before .args in
     omega (arith, c .before .before .before .before .before .before .before .item .ensures .end, c .before .before .before .index-item .ensures .end, length-digits 20 (a .number), index-size (eqb (a .number) 32) (a .index))
 

@@ -1,50 +1,57 @@
+-- As many lines are written as the loop has passed. Assumes nothing.
+use mathlib.Core.Path.{_≡_, ap}
+use Prim.Native.Nat.{ℕ, _≤_, _-_}
+use native.Mathlib.Omega.{arith}
+use lib.ListN.{length, getD}
+use Rattle.report.specs.Inside.{Wrote}
+use Rattle.lists.specs.Lists.{flat, listed}
+use Rattle.engine.specs.Run.{noDelivery}
+use Rattle.report.specs.Text.{deliveryLine}
+use Rattle.report.proofs.Writing.{wrote-none, wrote-then, wrote-as, wrote-length, pieces-none, pieces-more}
+use Rattle.report.proofs.Sizes.{deliveries-size}
+use borrow.Author.Needs.{needs}
 use Rattle.report.proofs.runs.deliveries.Statement.{statement}
 use Rattle.report.proofs.runs.deliveries.Tie as tie
-use Rattle.report.proofs.runs.deliveries.Reads as reads
-use Rattle.report.proofs.runs.deliveries.Lts as lts
-use Rattle.report.proofs.lines.delivery.Reads as delivery-reads
 
 abbrev Inv-loop : tie.InvT-loop
-Inv-loop out₀ at own count entries end₀ i₀ out end i = ?
+Inv-loop out₀ at own count entries end₀ i₀ out end i = (i ≤ count) × Wrote out₀ at (flat (listed i (λ j. deliveryLine own (getD entries j noDelivery)))) out end
 
 abbrev μ-loop : tie.MeasureT-loop
-μ-loop out₀ at own count entries end₀ i₀ out end i = ?
+μ-loop out₀ at own count entries end₀ i₀ out end i = count - i
 
--- src/runs.rt:52:5
 loop-holds : tie.Need-loop-holds Inv-loop μ-loop
-loop-holds c = ?
+loop-holds c = (omega arith, wrote-as (pieces-none _) (wrote-none _ _))
 
--- src/runs.rt:53:46
 mul-delivery : tie.Need-mul-delivery Inv-loop μ-loop
-mul-delivery c = ?
+mul-delivery c = search needs
 
--- src/runs.rt:53:46
 array-copy-out-delivery : tie.Need-array-copy-out-delivery Inv-loop μ-loop
-array-copy-out-delivery c = ?
+array-copy-out-delivery c = search needs
 
--- src/runs.rt:53:9
 delivery-requires : tie.Need-delivery-requires Inv-loop μ-loop
-delivery-requires c κs = ?
+delivery-requires c κs = let l = c .before .before .before .loop in let a = c .before .before .before .before .before .args in (c .before .before .before .before .before .pre .0, omega (arith, l .inv .1 .end, deliveries-size (a .own) (l .i) (a .t5) (c .before .before .before .before .before .pre .0)))
 
--- src/runs.rt:54:9
 add-i : tie.Need-add-i Inv-loop μ-loop
-add-i c = ?
+add-i c = search needs
 
--- src/runs.rt:52:5
 loop-less : tie.Need-loop-less Inv-loop μ-loop
-loop-less c = ?
+loop-less c = search needs
 
--- src/runs.rt:52:5
 loop-again : tie.Need-loop-again Inv-loop μ-loop
-loop-again c = ?
+loop-again c =
+    let l = c .before .before .before .before .before .before .loop in
+    let a = c .before .before .before .before .before .before .before .before .args in
+    (omega arith, wrote-as (pieces-more (λ j. deliveryLine (a .own) (getD (a .t5) j noDelivery)) (l .i)) (wrote-then (l .inv .1) (c .before .before .delivery .ensures)))
 
--- src/runs.rt:46:1
 same-length : tie.Need-same-length Inv-loop μ-loop
-same-length c = ?
+same-length c = wrote-length (c .before .loop .inv .1)
 
--- src/runs.rt:46:1
 returns : tie.Need-returns Inv-loop μ-loop
-returns c = ?
+returns c =
+    let l = c .before .loop in
+    let a = c .before .before .before .args in
+    let e : l .i ≡ a .count = omega arith in
+    wrote-as (ap (λ (n : ℕ). flat (listed n (λ j. deliveryLine (a .own) (getD (a .t5) j noDelivery)))) e) (l .inv .1)
 
 pub deliveries-spec : {M : Type 1} → statement M
 deliveries-spec =

@@ -1,46 +1,47 @@
+-- As many lines are written as the loop has passed. Assumes nothing.
+use mathlib.Core.Path.{_≡_, ap}
+use Prim.Native.Nat.{ℕ, _≤_, _-_}
+use native.Mathlib.Omega.{arith}
+use lib.ListN.{length, getD}
+use Rattle.report.specs.Inside.{Wrote}
+use Rattle.report.specs.Text.{startLine, startsText}
+use Rattle.report.proofs.Writing.{wrote-none, wrote-then, wrote-as, wrote-length, pieces-none, pieces-more}
+use Rattle.report.proofs.Sizes.{starts-size}
+use borrow.Author.Needs.{needs}
 use Rattle.report.proofs.runs.starts.Statement.{statement}
 use Rattle.report.proofs.runs.starts.Tie as tie
-use Rattle.report.proofs.runs.starts.Reads as reads
-use Rattle.report.proofs.runs.starts.Lts as lts
-use Rattle.report.proofs.lines.start.Reads as start-reads
 
 abbrev Inv-loop : tie.InvT-loop
-Inv-loop out₀ at count refusals end₀ k₀ out end k = ?
+Inv-loop out₀ at count refusals end₀ k₀ out end k = (k ≤ count) × Wrote out₀ at (startsText k refusals) out end
 
 abbrev μ-loop : tie.MeasureT-loop
-μ-loop out₀ at count refusals end₀ k₀ out end k = ?
+μ-loop out₀ at count refusals end₀ k₀ out end k = count - k
 
--- src/runs.rt:18:5
 loop-holds : tie.Need-loop-holds Inv-loop μ-loop
-loop-holds c = ?
+loop-holds c = (omega arith, wrote-as (pieces-none _) (wrote-none _ _))
 
--- src/runs.rt:19:41
 array-read-start : tie.Need-array-read-start Inv-loop μ-loop
-array-read-start c = ?
+array-read-start c = search needs
 
--- src/runs.rt:19:9
 start-requires : tie.Need-start-requires Inv-loop μ-loop
-start-requires c κs = ?
+start-requires c κs = let l = c .before .before .loop in omega (arith, l .inv .1 .end, starts-size (l .k) (c .before .before .before .before .args .t4))
 
--- src/runs.rt:20:9
 add-k : tie.Need-add-k Inv-loop μ-loop
-add-k c = ?
+add-k c = search needs
 
--- src/runs.rt:18:5
 loop-less : tie.Need-loop-less Inv-loop μ-loop
-loop-less c = ?
+loop-less c = search needs
 
--- src/runs.rt:18:5
 loop-again : tie.Need-loop-again Inv-loop μ-loop
-loop-again c = ?
+loop-again c =
+    let l = c .before .before .before .before .before .loop in
+    (omega arith, wrote-as (pieces-more (λ k. startLine k (getD (c .before .before .before .before .before .before .before .args .t4) k 0)) (l .k)) (wrote-then (l .inv .1) (c .before .before .start .ensures)))
 
--- src/runs.rt:12:1
 same-length : tie.Need-same-length Inv-loop μ-loop
-same-length c = ?
+same-length c = wrote-length (c .before .loop .inv .1)
 
--- src/runs.rt:12:1
 returns : tie.Need-returns Inv-loop μ-loop
-returns c = ?
+returns c = let l = c .before .loop in let e : l .k ≡ c .before .before .before .args .count = omega arith in wrote-as (ap (λ (n : ℕ). startsText n (c .before .before .before .args .t4)) e) (l .inv .1)
 
 pub starts-spec : {M : Type 1} → statement M
 starts-spec =
