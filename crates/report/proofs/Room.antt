@@ -4,7 +4,6 @@ use mathlib.Core.Bool.{Bool, true, false, cond}
 use mathlib.Core.List.{List, [], _++_}
 use Prim.Native.Nat.{ℕ, _≤_}
 use native.Mathlib.Omega.{arith}
-use borrow.Author.Tests.{le-leb}
 use lib.Dec.{eqb}
 use lib.ListN.{length, length-append}
 use Rattle.engine.specs.Run.{outcomeOf}
@@ -14,8 +13,9 @@ use Rattle.schedule.specs.Calls.{answered}
 use Rattle.report.specs.declared.Told.{Told}
 use Rattle.report.specs.declared.Told.the-variants.{Written}
 use Rattle.report.specs.Text.{word, item, line, startsText, hostsText, outcomeText, refusedText, text}
-use Rattle.report.specs.Calls.{reported, says, told, enough}
+use Rattle.report.specs.Calls.{reported, says, tooShort, told, enough}
 use Rattle.report.proofs.One.{one-told}
+use Rattle.report.proofs.Reports.{has-room, short-room}
 use Rattle.report.proofs.Sizes.{item-size, line-size, index-size, starts-size, hosts-size}
 
 pub refused-size : (a : ℕ × ℕ) → length (refusedText a) ≤ 64
@@ -56,4 +56,15 @@ text-size a o p = go (eqb (a .0) 0)
 pub never-short : (bs out : List ℕ) → InPlaces (outcomeOf bs) → enough ≤ length out → (r : Told) → says r ≡ told (reported bs) out → r ≡ Written (length (reported bs))
 never-short bs out p room r e =
     let l = text-size (answered bs) (outcomeOf bs) p in
-    one-told r (Written (length (reported bs))) e (sym (rw (le-leb (length (reported bs)) (length out) (omega arith))))
+    one-told r (Written (length (reported bs))) e (sym (rw (has-room (reported bs) out (omega arith))))
+
+-- what was written lies within the buffer
+pub written-fits : (t out : List ℕ) (n : ℕ) → says (Written n) ≡ told t out → n ≤ length out
+written-fits t out n e = go (tooShort t out) refl e
+  where
+    go : (b : Bool) → tooShort t out ≡ b → says (Written n) ≡ cond b (22, 0) (0, length t) → n ≤ length out
+    go true f e = let z : _≡_ {A = ℕ} 0 22 = ap (λ (q : ℕ × ℕ). q .0) e in absurd (omega arith)
+    go false f e =
+        let m : n ≡ length t = ap (λ (q : ℕ × ℕ). q .1) e in
+        let l = short-room t out f in
+        omega arith

@@ -1,4 +1,5 @@
 -- The text is written nowhere first, to learn its length, and then where it fits. Assumes nothing.
+use native.Mathlib.Omega.{arith}
 use denote.Ref.{now}
 use Rattle.report.proofs.Reports.{text-reported, too-short, fits}
 use borrow.Author.Needs.{needs}
@@ -17,7 +18,7 @@ text-requires c κs = search needs
 returns : tie.Need-returns
 returns c =
     let ran = c .before .before .before .before .before .run .ensures in
-    too-short (text-reported (now (c .before .before .before .before .before .before .before .before .args .bytes)) _ _ (ran .0) (ran .1)) (c .before .before .text .ensures) _ (c .if1 .taken)
+    too-short (text-reported (now (c .before .before .before .before .before .before .before .before .args .bytes)) _ _ (ran .0) (ran .1)) (c .before .before .text .ensures) (now (c .before .before .before .before .before .before .before .before .args .out)) (omega (arith, c .if1 .taken))
 
 text-requires-2 : tie.Need-text-requires-2
 text-requires-2 c κs = search needs

@@ -1,7 +1,8 @@
 -- The test is the definition's. Assumes nothing.
-use borrow.Author.Tests.{eq-eqb, ne-eqb}
+use native.Mathlib.Omega.{arith}
 use Rattle.report.specs.Text.{item}
-use Rattle.report.proofs.Writing.{wrote-none}
+use Rattle.report.proofs.Writing.{wrote-none, wrote-as}
+use Rattle.report.proofs.Reports.{index-there, index-none}
 use borrow.Author.Needs.{needs}
 use Rattle.report.proofs.lines.index_item.Statement.{statement}
 use Rattle.report.proofs.lines.index_item.Tie as tie
@@ -17,11 +18,11 @@ same-length c = search needs
 
 returns : tie.Need-returns
 unfolding item
-returns c = rw (eq-eqb _ _ (c .before .before .before .before .before .if1 .taken)) (c .before .before .item .ensures)
+returns c = wrote-as (index-there (c .before .before .before .before .before .before .before .args .number) (c .before .before .before .before .before .before .before .args .index) (omega (arith, c .before .before .before .before .before .if1 .taken))) (c .before .before .item .ensures)
 
 returns-2 : tie.Need-returns-2
 unfolding item
-returns-2 c = rw (ne-eqb _ _ (c .if1 .left)) (wrote-none _ _)
+returns-2 c = wrote-as (index-none _ (c .before .before .args .index) (c .if1 .left)) (wrote-none _ _)
 
 pub index-item-spec : {M : Type 1} → statement M
 index-item-spec =
