@@ -53,7 +53,8 @@ text-size a o p = go (eqb (a .0) 0)
     go true = room-enough o p
     go false = omega (arith, refused-size a)
 
-pub never-short : (bs out : List ℕ) → InPlaces (outcomeOf bs) → enough ≤ length out → (r : Told) → says r ≡ told (reported bs) out → r ≡ Written (length (reported bs))
+pub never-short : (bs out : List ℕ) → InPlaces (outcomeOf bs) → enough ≤ length out → (r : Told) → says r ≡ told (reported bs) out
+    → r ≡ Written (length (reported bs))
 never-short bs out p room r e =
     let l = text-size (answered bs) (outcomeOf bs) p in
     one-told r (Written (length (reported bs))) e (sym (rw (has-room (reported bs) out (omega arith))))

@@ -94,7 +94,8 @@ pub deliveries-size : (host count : ℕ) (entries : List Delivery) → host < 10
 deliveries-size host count entries l =
     pieces-size (λ i. deliveryLine host (getD entries i noDelivery)) count 134 (λ i h. delivery-size host (getD entries i noDelivery) l)
 
-pub hosts-size : (count : ℕ) (logs : List Log) → count ≤ 8 → ((h : ℕ) → h < 8 → getD logs h noLog .count ≤ 16) → length (hostsText count logs) ≤ count * 2144
+pub hosts-size : (count : ℕ) (logs : List Log) → count ≤ 8 → ((h : ℕ) → h < 8 → getD logs h noLog .count ≤ 16)
+    → length (hostsText count logs) ≤ count * 2144
 hosts-size count logs few short =
     pieces-size (λ h. hostText h (getD logs h noLog)) count 2144
     (λ h l. omega

@@ -33,7 +33,7 @@ decimal x = digits 20 x
 unfoldable pub item : String → ℕ → List ℕ
 item s x = word s ++ decimal x
 
--- .. that a line ends with
+-- a word and a number at the end of a line
 unfoldable pub line : String → ℕ → List ℕ
 line s x = item s x ++ word "\n"
 

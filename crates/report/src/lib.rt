@@ -13,7 +13,8 @@ pub enum Told {
 
 // The text of what a replay of these bytes answers, from the first byte of the buffer on; 22, and the buffer as it was, where it is too short.
 pub fn report(bytes: &[u8], out: &mut [u8]) -> Told
-    ensures { λ r. ⌜ (says r ≡ told (reported (now (bytes .entry))) (now (out .entry))) × (now (out .exit) ≡ left (reported (now (bytes .entry))) (now (out .entry))) ⌝ }
+    ensures { λ r. ⌜ (says r ≡ told (reported (now (bytes .entry))) (now (out .entry)))
+        × (now (out .exit) ≡ left (reported (now (bytes .entry))) (now (out .entry))) ⌝ }
 {
     let ran = engine::run(bytes);
     let answer = ran.answer;

@@ -1,4 +1,4 @@
-// The lines of the report.
+// The lines of the report. Each writer asks that its longest text, with 20 digits for a number, ends within the limit.
 ghost use mathlib.Core.Path.{_≡_};
 ghost use mathlib.Core.Bool.{cond};
 ghost use mathlib.Core.List.{[]};

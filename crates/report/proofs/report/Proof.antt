@@ -17,8 +17,11 @@ text-requires c κs = search needs
 
 returns : tie.Need-returns
 returns c =
-    let ran = c .before .before .before .before .before .run .ensures in
-    too-short (text-reported (now (c .before .before .before .before .before .before .before .before .args .bytes)) _ _ (ran .0) (ran .1)) (c .before .before .text .ensures) (now (c .before .before .before .before .before .before .before .before .args .out)) (omega (arith, c .if1 .taken))
+    let c2 = c .before .before in
+    let c5 = c2 .before .before .before in
+    let c8 = c5 .before .before .before in
+    let ran = c5 .run .ensures in
+    too-short (text-reported (now (c8 .args .bytes)) _ _ (ran .0) (ran .1)) (c2 .text .ensures) (now (c8 .args .out)) (omega (arith, c .if1 .taken))
 
 text-requires-2 : tie.Need-text-requires-2
 text-requires-2 c κs = search needs
@@ -28,8 +31,13 @@ same-length c = search needs
 
 returns-2 : tie.Need-returns-2
 returns-2 c =
-    let ran = c .before .before .before .before .before .before .before .before .before .run .ensures in
-    fits (text-reported (now (c .before .before .before .before .before .before .before .before .before .before .before .before .args .bytes)) _ _ (ran .0) (ran .1)) (c .before .before .before .before .before .before .text .ensures) _ (c .before .before .before .before .if1 .left) (c .before .before .text2 .ensures)
+    let c2 = c .before .before in
+    let c4 = c2 .before .before in
+    let c6 = c4 .before .before in
+    let c9 = c6 .before .before .before in
+    let c12 = c9 .before .before .before in
+    let ran = c9 .run .ensures in
+    fits (text-reported (now (c12 .args .bytes)) _ _ (ran .0) (ran .1)) (c6 .text .ensures) _ (c4 .if1 .left) (c2 .text2 .ensures)
 
 pub report-spec : {M : Type 1} → statement M
 report-spec =

@@ -20,17 +20,29 @@ cast-item : tie.Need-cast-item
 cast-item c = search needs
 
 item-requires-2 : tie.Need-item-requires-2
-item-requires-2 c κs = omega (arith, c .before .before .before .before .before .item .ensures .end, length-digits 20 (c .before .before .before .before .before .before .before .before .before .before .args .what .stamp .0))
+item-requires-2 c κs =
+    let c5 = c .before .before .before .before .before in
+    let c10 = c5 .before .before .before .before .before in
+    omega (arith, c5 .item .ensures .end, length-digits 20 (c10 .args .what .stamp .0))
 
 ordered-requires : tie.Need-ordered-requires
-ordered-requires c κs = let w = c .before .before .before .before .before .before .before .before .before .before .before .before .before .before .args .what in omega (arith, c .before .before .before .before .before .before .before .before .before .item .ensures .end, c .before .before .before .item2 .ensures .end, length-digits 20 (w .stamp .0), length-digits 20 (w .source))
+ordered-requires c κs =
+    let c3 = c .before .before .before in
+    let c9 = c3 .before .before .before .before .before .before in
+    let c14 = c9 .before .before .before .before .before in
+    let w = c14 .args .what in
+    omega (arith, c9 .item .ensures .end, c3 .item2 .ensures .end, length-digits 20 (w .stamp .0), length-digits 20 (w .source))
 
 same-length : tie.Need-same-length
 same-length c = search needs
 
 returns : tie.Need-returns
 unfolding item heldText
-returns c = wrote-then (wrote-then (c .before .before .before .before .before .before .before .before .before .before .before .before .item .ensures) (c .before .before .before .before .before .before .item2 .ensures)) (c .before .before .ordered .ensures)
+returns c =
+    let c2 = c .before .before in
+    let c6 = c2 .before .before .before .before in
+    let c12 = c6 .before .before .before .before .before .before in
+    wrote-then (wrote-then (c12 .item .ensures) (c6 .item2 .ensures)) (c2 .ordered .ensures)
 
 pub held-spec : {M : Type 1} → statement M
 held-spec =

@@ -18,7 +18,11 @@ same-length c = search needs
 
 returns : tie.Need-returns
 unfolding item
-returns c = wrote-as (index-there (c .before .before .before .before .before .before .before .args .number) (c .before .before .before .before .before .before .before .args .index) (omega (arith, c .before .before .before .before .before .if1 .taken))) (c .before .before .item .ensures)
+returns c =
+    let c2 = c .before .before in
+    let c5 = c2 .before .before .before in
+    let c7 = c5 .before .before in
+    wrote-as (index-there (c7 .args .number) (c7 .args .index) (omega (arith, c5 .if1 .taken))) (c2 .item .ensures)
 
 returns-2 : tie.Need-returns-2
 unfolding item

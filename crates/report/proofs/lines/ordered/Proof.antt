@@ -26,7 +26,10 @@ cast-item-2 : tie.Need-cast-item-2
 cast-item-2 c = search needs
 
 item-requires-2 : tie.Need-item-requires-2
-item-requires-2 c κs = omega (arith, c .before .before .before .before .item .ensures .end, length-digits 20 (c .before .before .before .before .before .before .before .before .order .given .0 .0))
+item-requires-2 c κs =
+    let c4 = c .before .before .before .before in
+    let c8 = c4 .before .before .before .before in
+    omega (arith, c4 .item .ensures .end, length-digits 20 (c8 .order .given .0 .0))
 
 enum-known-order-2 : tie.Need-enum-known-order-2
 enum-known-order-2 c = search needs
@@ -69,7 +72,11 @@ same-length c = search needs
 
 returns : tie.Need-returns
 unfolding item orderText
-returns c = rw (c .before .before .before .before .before .before .before .before .before .before .before .order .given .1) (wrote-then (c .before .before .before .before .before .before .before .item .ensures) (c .before .before .item2 .ensures))
+returns c =
+    let c2 = c .before .before in
+    let c7 = c2 .before .before .before .before .before in
+    let c11 = c7 .before .before .before .before in
+    rw (c11 .order .given .1) (wrote-then (c7 .item .ensures) (c2 .item2 .ensures))
 
 same-length-2 : tie.Need-same-length-2
 same-length-2 c = search needs

@@ -15,19 +15,29 @@ item-requires : tie.Need-item-requires
 item-requires c κs = search needs
 
 index-item-requires : tie.Need-index-item-requires
-index-item-requires c κs = omega (arith, c .before .before .before .item .ensures .end, length-digits 20 (c .before .before .before .before .before .before .before .args .number))
+index-item-requires c κs =
+    let c3 = c .before .before .before in
+    let c7 = c3 .before .before .before .before in
+    omega (arith, c3 .item .ensures .end, length-digits 20 (c7 .args .number))
 
 put-requires : tie.Need-put-requires
 put-requires c κs =
-    let a = c .before .before .before .before .before .before .before .before .before .before .before .args in
-    omega (arith, c .before .before .before .before .before .before .before .item .ensures .end, c .before .before .before .index-item .ensures .end, length-digits 20 (a .number), index-size (eqb (a .number) 32) (a .index))
+    let c3 = c .before .before .before in
+    let c7 = c3 .before .before .before .before in
+    let c11 = c7 .before .before .before .before in
+    let a = c11 .args in
+    omega (arith, c7 .item .ensures .end, c3 .index-item .ensures .end, length-digits 20 (a .number), index-size (eqb (a .number) 32) (a .index))
 
 same-length : tie.Need-same-length
 same-length c = search needs
 
 returns : tie.Need-returns
 unfolding item refusedText
-returns c = wrote-then (wrote-then (c .before .before .before .before .before .before .before .before .before .before .item .ensures) (c .before .before .before .before .before .before .index-item .ensures)) (c .before .before .put .ensures)
+returns c =
+    let c2 = c .before .before in
+    let c6 = c2 .before .before .before .before in
+    let c10 = c6 .before .before .before .before in
+    wrote-then (wrote-then (c10 .item .ensures) (c6 .index-item .ensures)) (c2 .put .ensures)
 
 pub refused-spec : {M : Type 1} → statement M
 refused-spec =

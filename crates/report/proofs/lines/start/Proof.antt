@@ -22,14 +22,21 @@ slice-aggregate-line : tie.Need-slice-aggregate-line
 slice-aggregate-line c = search needs
 
 line-requires : tie.Need-line-requires
-line-requires c κs = omega (arith, c .before .before .before .before .item .ensures .end, length-digits 20 (c .before .before .before .before .before .before .before .before .before .args .k))
+line-requires c κs =
+    let c4 = c .before .before .before .before in
+    let c9 = c4 .before .before .before .before .before in
+    omega (arith, c4 .item .ensures .end, length-digits 20 (c9 .args .k))
 
 same-length : tie.Need-same-length
 same-length c = search needs
 
 returns-2 : tie.Need-returns-2
 unfolding item line startLine
-returns-2 c = rw (ne-eqb _ _ (c .before .before .before .before .before .before .before .before .before .before .if1 .left)) (wrote-then (c .before .before .before .before .before .before .before .item .ensures) (c .before .before .line .ensures))
+returns-2 c =
+    let c2 = c .before .before in
+    let c7 = c2 .before .before .before .before .before in
+    let c10 = c7 .before .before .before in
+    rw (ne-eqb _ _ (c10 .if1 .left)) (wrote-then (c7 .item .ensures) (c2 .line .ensures))
 
 pub start-spec : {M : Type 1} → statement M
 start-spec =

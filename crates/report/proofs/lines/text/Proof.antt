@@ -18,8 +18,12 @@ same-length c = search needs
 
 returns : tie.Need-returns
 returns c =
-    let a = c .before .before .before .before .before .before .before .args in
-    wrote-as (text-run (says (a .answer)) (a .outcome) (sym (c .before .before .before .before .before .number-of .ensures) ∙ c .before .before .before .before .if1 .taken)) (c .before .before .whole .ensures)
+    let c2 = c .before .before in
+    let c4 = c2 .before .before in
+    let c5 = c4 .before in
+    let c7 = c5 .before .before in
+    let a = c7 .args in
+    wrote-as (text-run (says (a .answer)) (a .outcome) (sym (c5 .number-of .ensures) ∙ c4 .if1 .taken)) (c2 .whole .ensures)
 
 index-of-requires : tie.Need-index-of-requires
 index-of-requires c κs = search needs
@@ -32,8 +36,13 @@ same-length-2 c = search needs
 
 returns-2 : tie.Need-returns-2
 returns-2 c =
-    let a = c .before .before .before .before .before .before .before .before .args in
-    wrote-as (text-refused (says (a .answer)) (a .outcome) _ _ (c .before .before .before .before .before .before .number-of .ensures) (c .before .before .before .index-of .ensures) (c .before .before .before .before .before .if1 .left)) (c .before .before .refused .ensures)
+    let c2 = c .before .before in
+    let c3 = c2 .before in
+    let c5 = c3 .before .before in
+    let c6 = c5 .before in
+    let c8 = c6 .before .before in
+    let a = c8 .args in
+    wrote-as (text-refused (says (a .answer)) (a .outcome) _ _ (c6 .number-of .ensures) (c3 .index-of .ensures) (c5 .if1 .left)) (c2 .refused .ensures)
 
 pub text-spec : {M : Type 1} → statement M
 text-spec =

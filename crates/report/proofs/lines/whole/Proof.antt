@@ -15,7 +15,10 @@ line-requires c κs = search needs
 
 starts-requires : tie.Need-starts-requires
 unfolding item line
-starts-requires c κs = (c .before .before .before .before .before .before .before .before .before .pre .starts, omega (arith, c .before .before .before .line .ensures .end, line-size "delta " (c .before .before .before .before .before .before .before .before .before .args .outcome .bound)))
+starts-requires c κs =
+    let c3 = c .before .before .before in
+    let c9 = c3 .before .before .before .before .before .before in
+    (c9 .pre .starts, omega (arith, c3 .line .ensures .end, line-size "delta " (c9 .args .outcome .bound)))
 
 cast-hosts : tie.Need-cast-hosts
 cast-hosts c = search needs
@@ -23,11 +26,14 @@ cast-hosts c = search needs
 hosts-requires : tie.Need-hosts-requires
 unfolding item line
 hosts-requires c κs =
-    let o = c .before .before .before .before .before .before .before .before .before .before .before .before .before .before .args .outcome in
-    let within = c .before .before .before .before .before .before .before .before .before .before .before .before .before .before .pre in (
+    let c4 = c .before .before .before .before in
+    let c8 = c4 .before .before .before .before in
+    let c14 = c8 .before .before .before .before .before .before in
+    let o = c14 .args .outcome in
+    let within = c14 .pre in (
       within .hosts,
       omega
-          (arith, within .starts, c .before .before .before .before .before .before .before .before .line .ensures .end, c .before .before .before .before .starts .ensures .end, line-size "delta " (o .bound), starts-size (o .starts) (o .refusals)),
+          (arith, within .starts, c8 .line .ensures .end, c4 .starts .ensures .end, line-size "delta " (o .bound), starts-size (o .starts) (o .refusals)),
       within .logs,
     )
 
@@ -37,15 +43,19 @@ slice-aggregate-line-2 c = search needs
 line-requires-2 : tie.Need-line-requires-2
 unfolding item line
 line-requires-2 c κs =
-    let o = c .before .before .before .before .before .before .before .before .before .before .before .before .before .before .before .before .before .before .before .args .outcome in
-    let within = c .before .before .before .before .before .before .before .before .before .before .before .before .before .before .before .before .before .before .before .pre in
+    let c4 = c .before .before .before .before in
+    let c9 = c4 .before .before .before .before .before in
+    let c13 = c9 .before .before .before .before in
+    let c19 = c13 .before .before .before .before .before .before in
+    let o = c19 .args .outcome in
+    let within = c19 .pre in
     omega (
       arith,
       within .starts,
       within .hosts,
-      c .before .before .before .before .before .before .before .before .before .before .before .before .before .line .ensures .end,
-      c .before .before .before .before .before .before .before .before .before .starts .ensures .end,
-      c .before .before .before .before .hosts .ensures .end,
+      c13 .line .ensures .end,
+      c9 .starts .ensures .end,
+      c4 .hosts .ensures .end,
       line-size "delta " (o .bound),
       starts-size (o .starts) (o .refusals),
       hosts-size (o .hosts) (o .logs) (within .hosts) (within .logs),
@@ -57,7 +67,11 @@ same-length c = search needs
 returns : tie.Need-returns
 unfolding item line outcomeText
 returns c =
-    wrote-then (wrote-then (wrote-then (c .before .before .before .before .before .before .before .before .before .before .before .before .before .before .before .before .line .ensures) (c .before .before .before .before .before .before .before .before .before .before .before .before .starts .ensures)) (c .before .before .before .before .before .before .before .hosts .ensures)) (c .before .before .line2 .ensures)
+    let c2 = c .before .before in
+    let c7 = c2 .before .before .before .before .before in
+    let c12 = c7 .before .before .before .before .before in
+    let c16 = c12 .before .before .before .before in
+    wrote-then (wrote-then (wrote-then (c16 .line .ensures) (c12 .starts .ensures)) (c7 .hosts .ensures)) (c2 .line2 .ensures)
 
 pub whole-spec : {M : Type 1} → statement M
 whole-spec =

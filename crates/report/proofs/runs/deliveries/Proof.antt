@@ -14,7 +14,8 @@ use Rattle.report.proofs.runs.deliveries.Statement.{statement}
 use Rattle.report.proofs.runs.deliveries.Tie as tie
 
 abbrev Inv-loop : tie.InvT-loop
-Inv-loop out₀ at own count entries end₀ i₀ out end i = (i ≤ count) × Wrote out₀ at (flat (listed i (λ j. deliveryLine own (getD entries j noDelivery)))) out end
+Inv-loop out₀ at own count entries end₀ i₀ out end i =
+    (i ≤ count) × Wrote out₀ at (flat (listed i (λ j. deliveryLine own (getD entries j noDelivery)))) out end
 
 abbrev μ-loop : tie.MeasureT-loop
 μ-loop out₀ at own count entries end₀ i₀ out end i = count - i
@@ -29,7 +30,12 @@ array-copy-out-delivery : tie.Need-array-copy-out-delivery Inv-loop μ-loop
 array-copy-out-delivery c = search needs
 
 delivery-requires : tie.Need-delivery-requires Inv-loop μ-loop
-delivery-requires c κs = let l = c .before .before .before .loop in let a = c .before .before .before .before .before .args in (c .before .before .before .before .before .pre .0, omega (arith, l .inv .1 .end, deliveries-size (a .own) (l .i) (a .t5) (c .before .before .before .before .before .pre .0)))
+delivery-requires c κs =
+    let c3 = c .before .before .before in
+    let c5 = c3 .before .before in
+    let l = c3 .loop in
+    let a = c5 .args in
+    (c5 .pre .0, omega (arith, l .inv .1 .end, deliveries-size (a .own) (l .i) (a .t5) (c5 .pre .0)))
 
 add-i : tie.Need-add-i Inv-loop μ-loop
 add-i c = search needs
@@ -39,9 +45,12 @@ loop-less c = search needs
 
 loop-again : tie.Need-loop-again Inv-loop μ-loop
 loop-again c =
-    let l = c .before .before .before .before .before .before .loop in
-    let a = c .before .before .before .before .before .before .before .before .args in
-    (omega arith, wrote-as (pieces-more (λ j. deliveryLine (a .own) (getD (a .t5) j noDelivery)) (l .i)) (wrote-then (l .inv .1) (c .before .before .delivery .ensures)))
+    let c2 = c .before .before in
+    let c6 = c2 .before .before .before .before in
+    let c8 = c6 .before .before in
+    let l = c6 .loop in
+    let a = c8 .args in
+    (omega arith, wrote-as (pieces-more (λ j. deliveryLine (a .own) (getD (a .t5) j noDelivery)) (l .i)) (wrote-then (l .inv .1) (c2 .delivery .ensures)))
 
 same-length : tie.Need-same-length Inv-loop μ-loop
 same-length c = wrote-length (c .before .loop .inv .1)

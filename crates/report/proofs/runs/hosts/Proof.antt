@@ -29,8 +29,10 @@ array-copy-out-host c = search needs
 
 host-requires : tie.Need-host-requires Inv-loop μ-loop
 host-requires c κs =
-    let l = c .before .before .before .loop in
-    let start = c .before .before .before .before .before in
+    let c3 = c .before .before .before in
+    let c5 = c3 .before .before in
+    let l = c3 .loop in
+    let start = c5 in
     (omega arith, start .pre .2 (l .h) (omega arith), omega (arith, l .inv .1 .end, hosts-size (l .h) (start .args .t4) (omega arith) (start .pre .2)))
 
 add-h : tie.Need-add-h Inv-loop μ-loop
@@ -41,8 +43,11 @@ loop-less c = search needs
 
 loop-again : tie.Need-loop-again Inv-loop μ-loop
 loop-again c =
-    let l = c .before .before .before .before .before .before .loop in
-    (omega arith, wrote-as (pieces-more (λ h. hostText h (getD (c .before .before .before .before .before .before .before .before .args .t4) h noLog)) (l .h)) (wrote-then (l .inv .1) (c .before .before .host .ensures)))
+    let c2 = c .before .before in
+    let c6 = c2 .before .before .before .before in
+    let c8 = c6 .before .before in
+    let l = c6 .loop in
+    (omega arith, wrote-as (pieces-more (λ h. hostText h (getD (c8 .args .t4) h noLog)) (l .h)) (wrote-then (l .inv .1) (c2 .host .ensures)))
 
 same-length : tie.Need-same-length Inv-loop μ-loop
 same-length c = wrote-length (c .before .loop .inv .1)

@@ -24,7 +24,11 @@ array-read-start : tie.Need-array-read-start Inv-loop μ-loop
 array-read-start c = search needs
 
 start-requires : tie.Need-start-requires Inv-loop μ-loop
-start-requires c κs = let l = c .before .before .loop in omega (arith, l .inv .1 .end, starts-size (l .k) (c .before .before .before .before .args .t4))
+start-requires c κs =
+    let c2 = c .before .before in
+    let c4 = c2 .before .before in
+    let l = c2 .loop in
+    omega (arith, l .inv .1 .end, starts-size (l .k) (c4 .args .t4))
 
 add-k : tie.Need-add-k Inv-loop μ-loop
 add-k c = search needs
@@ -34,14 +38,21 @@ loop-less c = search needs
 
 loop-again : tie.Need-loop-again Inv-loop μ-loop
 loop-again c =
-    let l = c .before .before .before .before .before .loop in
-    (omega arith, wrote-as (pieces-more (λ k. startLine k (getD (c .before .before .before .before .before .before .before .args .t4) k 0)) (l .k)) (wrote-then (l .inv .1) (c .before .before .start .ensures)))
+    let c2 = c .before .before in
+    let c5 = c2 .before .before .before in
+    let c7 = c5 .before .before in
+    let l = c5 .loop in
+    (omega arith, wrote-as (pieces-more (λ k. startLine k (getD (c7 .args .t4) k 0)) (l .k)) (wrote-then (l .inv .1) (c2 .start .ensures)))
 
 same-length : tie.Need-same-length Inv-loop μ-loop
 same-length c = wrote-length (c .before .loop .inv .1)
 
 returns : tie.Need-returns Inv-loop μ-loop
-returns c = let l = c .before .loop in let e : l .k ≡ c .before .before .before .args .count = omega arith in wrote-as (ap (λ (n : ℕ). startsText n (c .before .before .before .args .t4)) e) (l .inv .1)
+returns c =
+    let c3 = c .before .before .before in
+    let l = c .before .loop in
+    let e : l .k ≡ c3 .args .count = omega arith in
+    wrote-as (ap (λ (n : ℕ). startsText n (c3 .args .t4)) e) (l .inv .1)
 
 pub starts-spec : {M : Type 1} → statement M
 starts-spec =

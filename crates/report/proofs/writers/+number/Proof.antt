@@ -38,7 +38,12 @@ number-same-length : (t : ℕ) → number-lts.Need-same-length (put-reads.Asked,
 number-same-length t c = wrote-length (c .before .before .put .ensures)
 
 number-returns-2 : (t : ℕ) → number-lts.Need-returns-2 (put-reads.Asked, put-reads.Learnt, number-below t, number.Post) (number-at t) number.Post
-number-returns-2 t c = wrote-as (digits-last (c .before .before .before .before .before .before .before .args .k) (c .before .before .before .before .before .before .before .args .x) (omega (arith, c .before .before .before .before .before .if1 .left)) (c .before .before .before .before .if2 .taken)) (c .before .before .put .ensures)
+number-returns-2 t c =
+    let c2 = c .before .before in
+    let c4 = c2 .before .before in
+    let c5 = c4 .before in
+    let c7 = c5 .before .before in
+    wrote-as (digits-last (c7 .args .k) (c7 .args .x) (omega (arith, c5 .if1 .left)) (c4 .if2 .taken)) (c2 .put .ensures)
 
 number-sub-number : (t : ℕ) → number-lts.Need-sub-number (put-reads.Asked, put-reads.Learnt, number-below t, number.Post) (number-at t) number.Post
 number-sub-number t c = omega arith
@@ -54,13 +59,24 @@ number-add-put-2 t c = omega arith
 
 number-put-requires-2 : (t : ℕ) → number-lts.Need-put-requires-2 (put-reads.Asked, put-reads.Learnt, number-below t, number.Post) (number-at t) number.Post
 number-put-requires-2 t c κs =
-    omega (arith, c .before .before .before .number .ensures .end, length-digits (c .before .before .before .before .before .before .before .before .args .k - 1) (c .before .before .before .before .before .before .before .before .args .x / 10))
+    let c3 = c .before .before .before in
+    let c8 = c3 .before .before .before .before .before in
+    omega (arith, c3 .number .ensures .end, length-digits (c8 .args .k - 1) (c8 .args .x / 10))
 
 number-same-length-2 : (t : ℕ) → number-lts.Need-same-length-2 (put-reads.Asked, put-reads.Learnt, number-below t, number.Post) (number-at t) number.Post
-number-same-length-2 t c = wrote-length (c .before .before .put2 .ensures) ∙ wrote-length (c .before .before .before .before .before .before .number .ensures)
+number-same-length-2 t c =
+    let c2 = c .before .before in
+    let c6 = c2 .before .before .before .before in
+    wrote-length (c2 .put2 .ensures) ∙ wrote-length (c6 .number .ensures)
 
 number-returns-3 : (t : ℕ) → number-lts.Need-returns-3 (put-reads.Asked, put-reads.Learnt, number-below t, number.Post) (number-at t) number.Post
-number-returns-3 t c = wrote-as (digits-more (c .before .before .before .before .before .before .before .before .before .before .before .args .k) (c .before .before .before .before .before .before .before .before .before .before .before .args .x) (omega (arith, c .before .before .before .before .before .before .before .before .before .if1 .left)) (c .before .before .before .before .before .before .before .before .if2 .left)) (wrote-then (c .before .before .before .before .before .before .number .ensures) (c .before .before .put2 .ensures))
+number-returns-3 t c =
+    let c2 = c .before .before in
+    let c6 = c2 .before .before .before .before in
+    let c8 = c6 .before .before in
+    let c9 = c8 .before in
+    let c11 = c9 .before .before in
+    wrote-as (digits-more (c11 .args .k) (c11 .args .x) (omega (arith, c9 .if1 .left)) (c8 .if2 .left)) (wrote-then (c6 .number .ensures) (c2 .put2 .ensures))
 
 pub +number-spec : {M : Type 1} → statement M
 +number-spec = close μ-number λ t. number-lts.spec (put-reads.Asked, put-reads.Learnt, number-below t, number.Post)

@@ -14,7 +14,11 @@ item-requires : tie.Need-item-requires
 item-requires c κs = search needs
 
 put-requires : tie.Need-put-requires
-put-requires c κs = let a = c .before .before .before .before .before .before .before .args in omega (arith, c .before .before .before .item .ensures .end, length-append (now (a .name)) (digits 20 (a .x)), length-digits 20 (a .x))
+put-requires c κs =
+    let c3 = c .before .before .before in
+    let c7 = c3 .before .before .before .before in
+    let a = c7 .args in
+    omega (arith, c3 .item .ensures .end, length-append (now (a .name)) (digits 20 (a .x)), length-digits 20 (a .x))
 
 same-length : tie.Need-same-length
 same-length c = search needs
