@@ -2,25 +2,24 @@
 use mathlib.Core.Path.{_≡_, refl, sym, ap, _∙_}
 use mathlib.Core.Bool.{Bool, true, false, cond}
 use mathlib.Core.List.{List, []}
-use Prim.Native.Nat.{ℕ, zero, suc, _+_, _≤_}
+use Prim.Native.Nat.{ℕ, _+_}
 use native.Mathlib.Omega.{arith}
-use borrow.Author.Tests.{eqb-true, ltb-true, ltb-false}
-use lib.Dec.{ltb, eqb}
-use lib.ListN.{getD, replicate}
-use Rattle.lists.specs.Lists.{listed}
-use Rattle.lists.proofs.Listing.{length-listed, getD-listed}
+use borrow.Author.Tests.{eqb-true}
+use lib.Dec.{eqb}
+use lib.ListN.{getD-replicate}
+use Rattle.lists.proofs.Listing.{getD-listed}
 use Rattle.schedule.specs.declared.Schedule.{Schedule}
 use Rattle.schedule.specs.declared.Answer.{Answer}
 use Rattle.schedule.specs.Schedule.{scheduleOf}
 use Rattle.schedule.specs.Calls.{readRefusal, says, answered, scheduleRead, nothing}
-use Rattle.schedule.proofs.Laws.{Within, within, plan-ranges, any-ends, any-host, any-tick}
+use Rattle.schedule.proofs.Laws.{Within, within-of, within, plan-ranges, any-ends, any-host, any-tick}
 use Rattle.engine.specs.declared.Log.{Log}
 use Rattle.engine.specs.declared.Outcome.{Outcome}
-use Rattle.engine.specs.Parts.{logOf}
+use Rattle.engine.specs.Parts.{noLog, logOf}
 use Rattle.engine.specs.Run.{station, world, outcome}
 use Rattle.engine.specs.Calls.{noOutcome, outcomeOf}
 use Rattle.engine.specs.Inside.{Playable, InPlaces}
-use Rattle.engine.proofs.Worlds.{world-places, getD-past}
+use Rattle.engine.proofs.Worlds.{world-places}
 
 pub playable : (s : Schedule) → Within s → Playable s
 playable s w =
@@ -51,25 +50,13 @@ read-playable bs a s e es h =
 
 pub in-places : (s : Schedule) → Playable s → InPlaces (outcome s)
 unfolding outcome
-in-places s z = record { hosts = z .n-most; starts = z .few; logs = λ p. go p (ltb p 8) refl }
+in-places s z = record { hosts = z .n-most; starts = z .few; logs = λ p h. rw (getD-listed 8 f p noLog h) (world-places s z (s .end .0 + 1) p) }
   where
     f : ℕ → Log
     f p = station (world s (s .end .0 + 1)) p .log
 
-    go : (p : ℕ) (b : Bool) → ltb p 8 ≡ b → getD (listed 8 f) p (logOf []) .count ≤ 16
-    go p true e = rw (getD-listed 8 f p (logOf []) (ltb-true p 8 e)) (world-places s z (s .end .0 + 1) p)
-    go p false e = let past : 8 ≤ p = ltb-false p 8 e in rw (getD-past (listed 8 f) p (logOf []) (omega (arith, length-listed 8 f))) (omega arith)
-
-getD-blank : {A : Type 0} (n i : ℕ) (z : A) → getD (replicate n z) i z ≡ z
-getD-blank zero i z = refl
-getD-blank (suc n) zero z = refl
-getD-blank (suc n) (suc i) z = getD-blank n i z
-
 none-in-places : InPlaces noOutcome
-none-in-places = record { hosts = omega arith; starts = omega arith; logs = go }
-  where
-    go : (p : ℕ) → getD (noOutcome .logs) p (logOf []) .count ≤ 16
-    go p = rw (getD-blank 8 p (logOf [])) (omega arith)
+none-in-places = record { hosts = omega arith; starts = omega arith; logs = λ p h. rw (getD-replicate 8 p (logOf []) noLog h) (omega arith) }
 
 pub ran : (bs : List ℕ) (a : Answer) (s : Schedule) (o : Outcome) → says a ≡ answered bs → s ≡ scheduleRead bs → true ≡ eqb (says a .0) 0 → o ≡ outcome s
     → (o ≡ outcomeOf bs) × InPlaces o
@@ -83,3 +70,11 @@ pub not-run : (bs : List ℕ) (a : Answer) (o : Outcome) → says a ≡ answered
 not-run bs a o e h eo =
     let refused : eqb (readRefusal bs) 0 ≡ false = refusal-is bs a false e h in
     (eo ∙ sym (ap (λ (b : Bool). cond b (outcome (scheduleOf bs)) noOutcome) refused), rw eo none-in-places)
+
+-- every outcome stays in its places
+pub outcome-in-places : (bs : List ℕ) → InPlaces (outcomeOf bs)
+outcome-in-places bs = go (eqb (readRefusal bs) 0) refl
+  where
+    go : (b : Bool) → eqb (readRefusal bs) 0 ≡ b → InPlaces (cond b (outcome (scheduleOf bs)) noOutcome)
+    go true e = in-places (scheduleOf bs) (playable (scheduleOf bs) (within-of bs (eqb-true (readRefusal bs) 0 e)))
+    go false e = none-in-places

@@ -29,7 +29,7 @@ use Rattle.engine.proofs.Turns.{keeps}
 use Rattle.engine.proofs.Kept.{Kept, room-kept, count-kept}
 use Rattle.engine.proofs.Steps.{hand-keeps, tell-keeps, tick-keeps}
 
-pub getD-past : {A : Type 0} (l : List A) (i : ℕ) (d : A) → length l ≤ i → getD l i d ≡ d
+getD-past : {A : Type 0} (l : List A) (i : ℕ) (d : A) → length l ≤ i → getD l i d ≡ d
 getD-past [] i d h = refl
 getD-past (x ∷ l) zero d h = let f : ⊥ = omega arith in absurd f
 getD-past (x ∷ l) (suc i) d h = getD-past l i d (omega arith)

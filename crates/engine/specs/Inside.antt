@@ -11,13 +11,13 @@ use Rattle.schedule.specs.declared.Schedule.{Schedule}
 use Rattle.engine.specs.declared.Outcome.{Outcome}
 use Rattle.engine.specs.declared.Log.{Log}
 use Rattle.engine.specs.declared.world.Station.{Station}
-use Rattle.engine.specs.Parts.{listOf, logOf, start}
+use Rattle.engine.specs.Parts.{noLog, listOf, logOf, start}
 
 -- an outcome's numbers stay within its places
 pub record InPlaces (o : Outcome) : Type 0 where
   pub hosts : o .hosts ≤ 8
   pub starts : o .starts ≤ 16
-  pub logs : (p : ℕ) → getD (o .logs) p (logOf []) .count ≤ 16
+  pub logs : (p : ℕ) → p < 8 → getD (o .logs) p noLog .count ≤ 16
 
 -- a schedule whose numbers are those that can be played
 pub record Playable (s : Schedule) : Type 0 where

@@ -30,7 +30,10 @@ listOf l = take (l .count) (l .entries)
 abbrev pub logOf : List Delivery → Log
 logOf l = record { count = length l; entries = pad 16 noDelivery l }
 
--- what stands past the last station: nothing
+-- what stands past the last log and the last station: nothing
+abbrev pub noLog : Log
+noLog = record { count = 0; entries = [] }
+
 abbrev pub noStation : Station
 noStation =
     record {
@@ -47,7 +50,7 @@ noStation =
             held = 0;
             history = [];
           };
-      log = record { count = 0; entries = [] };
+      log = noLog;
     }
 
 -- ---- clocks and starts

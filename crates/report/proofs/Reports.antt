@@ -11,7 +11,7 @@ use lib.ListN.{length, drop}
 use lib.Seq.{sets}
 use Rattle.fields.proofs.Placing.{placed-sets, placed-front}
 use Rattle.schedule.specs.Calls.{answered}
-use Rattle.engine.specs.Run.{outcomeOf}
+use Rattle.engine.specs.Calls.{outcomeOf}
 use Rattle.engine.specs.declared.Outcome.{Outcome}
 use Rattle.report.specs.Text.{item, text, outcomeText, refusedText}
 use Rattle.report.specs.Calls.{reported, tooShort, told, left}

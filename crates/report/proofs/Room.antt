@@ -6,7 +6,8 @@ use Prim.Native.Nat.{ℕ, _≤_}
 use native.Mathlib.Omega.{arith}
 use lib.Dec.{eqb}
 use lib.ListN.{length, length-append}
-use Rattle.engine.specs.Run.{outcomeOf}
+use Rattle.engine.specs.Calls.{outcomeOf}
+use Rattle.engine.proofs.Runs.{outcome-in-places}
 use Rattle.engine.specs.Inside.{InPlaces}
 use Rattle.engine.specs.declared.Outcome.{Outcome}
 use Rattle.schedule.specs.Calls.{answered}
@@ -53,10 +54,10 @@ text-size a o p = go (eqb (a .0) 0)
     go true = room-enough o p
     go false = omega (arith, refused-size a)
 
-pub never-short : (bs out : List ℕ) → InPlaces (outcomeOf bs) → enough ≤ length out → (r : Told) → says r ≡ told (reported bs) out
+pub never-short : (bs out : List ℕ) → enough ≤ length out → (r : Told) → says r ≡ told (reported bs) out
     → r ≡ Written (length (reported bs))
-never-short bs out p room r e =
-    let l = text-size (answered bs) (outcomeOf bs) p in
+never-short bs out room r e =
+    let l = text-size (answered bs) (outcomeOf bs) (outcome-in-places bs) in
     one-told r (Written (length (reported bs))) e (sym (rw (has-room (reported bs) out (omega arith))))
 
 -- what was written lies within the buffer

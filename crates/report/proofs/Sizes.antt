@@ -13,7 +13,7 @@ use Rattle.lists.specs.Lists.{flat, listed}
 use Rattle.orders.specs.declared.Order.{Order}
 use Rattle.orders.specs.declared.Order.the-variants.{Publish, Halt, Resume, Withdraw}
 use Rattle.host.specs.declared.Held.{Held}
-use Rattle.engine.specs.Run.{noDelivery, noLog}
+use Rattle.engine.specs.Parts.{noDelivery, noLog}
 use Rattle.engine.specs.declared.Delivery.{Delivery}
 use Rattle.engine.specs.declared.Log.{Log}
 use Rattle.report.specs.Text.{word, digits, item, line, orderText, heldText, deliveryLine, startLine, startsText, hostText, hostsText}

@@ -5,7 +5,7 @@ use Prim.Native.Nat.{ℕ}
 use lib.Dec.{ltb}
 use lib.ListN.{length, drop}
 use Rattle.schedule.specs.Calls.{answered}
-use Rattle.engine.specs.Run.{outcomeOf}
+use Rattle.engine.specs.Calls.{outcomeOf}
 use Rattle.report.specs.declared.Told.{Told}
 use Rattle.report.specs.declared.Told.the-variants.{Written, ShortBuffer}
 use Rattle.report.specs.Text.{text}

@@ -1,7 +1,7 @@
 // Runs of lines: of the starts, of a host's deliveries, of the hosts.
 ghost use Prim.Native.Nat.{ℕ, _+_, _≤_, _<_};
 ghost use lib.ListN.{getD};
-ghost use Rattle.engine.specs.Run.{noLog, noDelivery};
+ghost use Rattle.engine.specs.Parts.{noDelivery, noLog};
 ghost use Rattle.lists.specs.Lists.{flat, listed};
 ghost use Rattle.report.specs.Text.{startsText, hostText, hostsText, deliveryLine};
 ghost use Rattle.report.specs.Inside.{Wrote, limit};

@@ -5,7 +5,7 @@ use native.Mathlib.Omega.{arith}
 use lib.ListN.{length, getD}
 use Rattle.report.specs.Inside.{Wrote}
 use Rattle.lists.specs.Lists.{flat, listed}
-use Rattle.engine.specs.Run.{noDelivery}
+use Rattle.engine.specs.Parts.{noDelivery}
 use Rattle.report.specs.Text.{deliveryLine}
 use Rattle.report.proofs.Writing.{wrote-none, wrote-then, wrote-as, wrote-length, pieces-none, pieces-more}
 use Rattle.report.proofs.Sizes.{deliveries-size}

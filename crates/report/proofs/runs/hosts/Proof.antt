@@ -4,7 +4,7 @@ use Prim.Native.Nat.{ℕ, _≤_, _-_}
 use native.Mathlib.Omega.{arith}
 use lib.ListN.{length, getD}
 use Rattle.report.specs.Inside.{Wrote}
-use Rattle.engine.specs.Run.{noLog}
+use Rattle.engine.specs.Parts.{noLog}
 use Rattle.report.specs.Text.{hostText, hostsText}
 use Rattle.report.proofs.Writing.{wrote-none, wrote-then, wrote-as, wrote-length, pieces-none, pieces-more}
 use Rattle.report.proofs.Sizes.{hosts-size}
