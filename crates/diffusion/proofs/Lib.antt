@@ -14,4 +14,5 @@ pub mod Ours
 pub mod OurStarts
 pub mod OurCopies
 pub mod Follows
+pub mod Boards
 pub mod Demand3
