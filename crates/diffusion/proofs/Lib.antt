@@ -16,3 +16,5 @@ pub mod OurCopies
 pub mod Follows
 pub mod Boards
 pub mod Demand3
+pub mod Decided
+pub mod Example
