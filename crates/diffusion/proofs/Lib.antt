@@ -18,3 +18,4 @@ pub mod Boards
 pub mod Demand3
 pub mod Decided
 pub mod Example
+pub mod Witnesses

@@ -1,0 +1,126 @@
+-- Each witness keeps the premises, and in it two faultless hosts have delivered another number of orders; computed. Assumes nothing.
+use mathlib.Core.Path.{_≡_, refl, sym, ap, subst}
+use mathlib.Core.Logic.{inl, inr}
+use mathlib.Core.Bool.{Bool, true, false, not}
+use mathlib.Core.List.{List, [], _∷_, map}
+use Prim.Native.Nat.{ℕ, _+_, _<_}
+use native.Mathlib.Omega.{arith}
+use borrow.Author.Tests.{leb-true, ltb-true, eqb-false, not-true}
+use lib.Count.{ones}
+use lib.Dec.{leb, ltb, eqb}
+use lib.ListN.{length}
+use Rattle.lists.specs.Lists.{all}
+use Rattle.lists.specs.Members.{In, All}
+use Rattle.lists.specs.Tests.{allOf, anyOf}
+use Rattle.lists.specs.Searches.{some, each, largest, least}
+use Rattle.lists.proofs.Listed.{all-member}
+use Rattle.lists.proofs.MemberLaws.{in-all}
+use Rattle.lists.proofs.TestLaws.{all-each}
+use Rattle.orders.specs.Orders.{kindOf}
+use Rattle.orders.specs.declared.Order.the-variants.{Halt, Resume}
+use Rattle.network.specs.Network.{n, inRange, same, badLink, badLinks, has, survives, via, within, distance, farthest, diameter, worstLinks, worst, bound, window, planTests, planRefusal, Survivor}
+use Rattle.host.specs.State.{soundTests}
+use Rattle.host.specs.Calls.{setOf, startTests, receiveTests, tickTests, fresh}
+use Rattle.diffusion.specs.Hosts.{Carried}
+use Rattle.diffusion.specs.Run.{reading, run, Some, before, delivers, log, Starts-at, Refuses-at, Premises, Claims}
+use Rattle.diffusion.specs.Example.{begun}
+use Rattle.diffusion.specs.Variants.{startsOther, idle}
+use Rattle.diffusion.specs.Witnesses.{Witness, sequence, Parts, twoHosts, soon, twice, witnesses, otherRun, others, idleRun, idlers}
+use Rattle.diffusion.proofs.Decided.{implies, sameCopy, hands, sentBy, sent, eachHanded, joins, sentAt, faultTests, closeTest, roomTest, wasSent, arrivesTest, isHanded, sound, kept, noLossTest, keepsPremises, roomy, keeps, within-premises}
+
+-- host p is faultless and has reached the reading
+standTests : Witness → ℕ → List Bool
+standTests w p = ltb p (n (w .network)) ∷ not (has (w .run .faults .hosts) p) ∷ leb (w .until) (reading (w .run) p (w .run .end)) ∷ []
+
+partTests : Witness → List Bool
+partTests w =
+    keeps (w .network) (w .first) (w .call) (w .run)
+    ∷ allOf (standTests w (w .one))
+    ∷ allOf (standTests w (w .other))
+    ∷ not (eqb (length (sequence w (w .one))) (length (sequence w (w .other))))
+    ∷ []
+
+parts : (w : Witness) → allOf (partTests w) ≡ true → Parts w
+unfolding partTests standTests
+parts w e =
+    let t = all-each (partTests w) e in
+    let a = all-each (standTests w (w .one)) (t .1 .0) in
+    let b = all-each (standTests w (w .other)) (t .1 .1 .0) in
+    record {
+      premises = within-premises (w .network) (w .first) (w .call) (w .run) (t .0);
+      faultless = record { host = ltb-true _ _ (a .0); well = not-true _ (a .1 .0) };
+      other-faultless = record { host = ltb-true _ _ (b .0); well = not-true _ (b .1 .0) };
+      reached = leb-true _ _ (a .1 .1 .0);
+      other-reached = leb-true _ _ (b .1 .1 .0);
+      part = λ q. eqb-false _ _ (not-true _ (t .1 .1 .1 .0)) (ap length q);
+    }
+
+-- what is found by computing
+record Computed : Type 0 where
+  parting : all (λ w. allOf (partTests w)) witnesses ≡ true
+  networks : map (λ w. planRefusal (w .network)) witnesses ≡ 0 ∷ 0 ∷ 0 ∷ 0 ∷ 0 ∷ 0 ∷ 3 ∷ []
+  plans : map (λ w. planRefusal (w .first 0 .plan)) witnesses ≡ 0 ∷ 0 ∷ 0 ∷ 0 ∷ 0 ∷ 0 ∷ 3 ∷ []
+  two : sequence twice 2 ≡ (5, soon) ∷ (6, soon) ∷ []
+  other-keeps : keeps (twoHosts 0) (fresh (twoHosts 0) 1) startsOther otherRun ≡ true
+  other-starts : Starts-at others otherRun 0 5 (begun 5 (Halt 7))
+  other-delivers : delivers others otherRun 1 18 ≡ begun 5 (Resume 7) ∷ []
+  idle-keeps : keeps (twoHosts 0) (fresh (twoHosts 0) 1) idle idleRun ≡ true
+  idle-refuses : Refuses-at idlers idleRun 0 5 14
+  bound-is : bound 1 (twoHosts 0) (worst (twoHosts 0)) ≡ 13
+  well : (has 0 0 ≡ false) × (has 0 1 ≡ false)
+
+computed : Computed
+unfolding partTests standTests keeps roomy keepsPremises implies sameCopy hands sentBy sent eachHanded joins sentAt faultTests closeTest roomTest wasSent arrivesTest isHanded sound kept noLossTest Some log before run soundTests setOf startTests receiveTests tickTests allOf anyOf some each largest least has inRange same badLink badLinks survives via within distance farthest diameter worstLinks worst bound window planTests ones
+computed =
+    record {
+      parting = refl;
+      networks = refl;
+      plans = refl;
+      two = refl;
+      other-keeps = refl;
+      other-starts = inl (refl, tt);
+      other-delivers = refl;
+      idle-keeps = refl;
+      idle-refuses = inl refl;
+      bound-is = refl;
+      well = (refl, refl);
+    }
+
+pub all-part : All Parts witnesses
+all-part = in-all Parts witnesses (λ w i. parts w (all-member (λ (v : Witness). allOf (partTests v)) witnesses (computed .parting) w i))
+
+-- planning accepts the network, and the plan that the hosts were made by, of each witness but the last
+pub networks-accepted : map (λ w. planRefusal (w .network)) witnesses ≡ 0 ∷ 0 ∷ 0 ∷ 0 ∷ 0 ∷ 0 ∷ 3 ∷ []
+networks-accepted = computed .networks
+
+pub plans-accepted : map (λ w. planRefusal (w .first 0 .plan)) witnesses ≡ 0 ∷ 0 ∷ 0 ∷ 0 ∷ 0 ∷ 0 ∷ 3 ∷ []
+plans-accepted = computed .plans
+
+-- accepting at T + Δ, a host delivers one order at two readings
+pub delivers-twice : sequence twice 2 ≡ (5, soon) ∷ (6, soon) ∷ []
+delivers-twice = computed .two
+
+-- host 1 delivers at reading 18 not what host 0 was told to start
+pub held-otherwise : Premises (twoHosts 0) others otherRun × (Claims (twoHosts 0) others otherRun → ⊥)
+held-otherwise = (
+  within-premises (twoHosts 0) (fresh (twoHosts 0) 1) startsOther otherRun (computed .other-keeps),
+  λ C. no-halt (C .delivered 0 1 5 18 (begun 5 (Halt 7)) (fine 0 (omega arith) (computed .well .0)) (fine 1 (omega arith) (computed .well .1)) (computed .other-starts) (omega arith) due),
+)
+  where
+    fine : (p : ℕ) → p < 2 → has 0 p ≡ false → Survivor (twoHosts 0) (otherRun .faults) p
+    fine p h e = record { host = h; well = e }
+
+    due : 18 ≡ 5 + bound 1 (twoHosts 0) (worst (twoHosts 0))
+    due = ap (λ (k : ℕ). 5 + k) (sym (computed .bound-is))
+
+    other : In (begun 5 (Halt 7)) (begun 5 (Resume 7) ∷ []) → ⊥
+    other (inl e) = let kinds = ap (λ (x : Carried). kindOf (x .order)) e in omega arith
+    other (inr j) = j
+
+    no-halt : In (begun 5 (Halt 7)) (delivers others otherRun 1 18) → ⊥
+    no-halt i = other (subst (In (begun 5 (Halt 7))) (computed .other-delivers) i)
+
+-- host 0 refuses 14 with an empty history
+pub idle-fails : Premises (twoHosts 0) idlers idleRun × (Claims (twoHosts 0) idlers idleRun → ⊥)
+idle-fails =
+    (within-premises (twoHosts 0) (fresh (twoHosts 0) 1) idle idleRun (computed .idle-keeps), λ C. C .never-14 0 5 (omega arith) (computed .idle-refuses))
