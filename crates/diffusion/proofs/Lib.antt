@@ -19,3 +19,4 @@ pub mod Demand3
 pub mod Decided
 pub mod Example
 pub mod Witnesses
+pub mod Written
