@@ -179,4 +179,12 @@ module _ (P : Plan) (F : Sturdy P) (H : Host) (L : Laws P H) (B : FirstRules P H
       (r .0, r .1, r .2, subst (λ (c : Board). Stopped (boardBy b (r .0)) c i (r .1)) (sym now) stop)
 
   pub boards : Boards P H R
-  boards = record { equal = equal; delivered = delivered; made = made; keeps-sound = λ b p t s. by-sound b (orders H R p t) s; in-range = in-range; halts = halts }
+  boards =
+      record {
+        equal = equal;
+        delivered = delivered;
+        made = made;
+        keeps-sound = λ b p t s. by-sound b (orders H R p t) s;
+        in-range = in-range;
+        halts = λ b s p t u i x sb fs fp k e l h. halts b s p t u i x sb fs fp k e l (omega arith);
+      }

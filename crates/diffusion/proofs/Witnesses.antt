@@ -1,5 +1,5 @@
 -- Each witness keeps the premises, and in it two faultless hosts have delivered another number of orders; computed. Assumes nothing.
-use mathlib.Core.Path.{_≡_, refl, sym, ap, subst}
+use mathlib.Core.Path.{_≡_, refl, sym, ap, _∙_, subst}
 use mathlib.Core.Logic.{inl, inr}
 use mathlib.Core.Bool.{Bool, true, false, not}
 use mathlib.Core.List.{List, [], _∷_, map}
@@ -17,7 +17,7 @@ use Rattle.lists.proofs.Listed.{all-member}
 use Rattle.lists.proofs.MemberLaws.{in-all}
 use Rattle.lists.proofs.TestLaws.{all-each}
 use Rattle.orders.specs.Orders.{kindOf}
-use Rattle.orders.specs.declared.Order.the-variants.{Halt, Resume}
+use Rattle.orders.specs.declared.Order.the-variants.{Resume}
 use Rattle.network.specs.Network.{n, inRange, same, badLink, badLinks, has, survives, via, within, distance, farthest, diameter, worstLinks, worst, bound, window, planTests, planRefusal, Survivor}
 use Rattle.host.specs.State.{soundTests}
 use Rattle.host.specs.Calls.{setOf, startTests, receiveTests, tickTests, fresh}
@@ -25,8 +25,8 @@ use Rattle.diffusion.specs.Hosts.{Carried}
 use Rattle.diffusion.specs.Run.{reading, run, Some, before, delivers, log, Starts-at, Refuses-at, Premises, Claims}
 use Rattle.diffusion.specs.Example.{begun}
 use Rattle.diffusion.specs.Variants.{startsOther, idle}
-use Rattle.diffusion.specs.Witnesses.{Witness, sequence, Parts, twoHosts, soon, twice, witnesses, otherRun, others, idleRun, idlers}
-use Rattle.diffusion.proofs.Decided.{implies, sameCopy, hands, sentBy, sent, eachHanded, joins, sentAt, faultTests, closeTest, roomTest, wasSent, arrivesTest, isHanded, sound, kept, noLossTest, keepsPremises, roomy, keeps, within-premises}
+use Rattle.diffusion.specs.Witnesses.{Witness, sequence, Parts, twoHosts, soon, twice, witnesses, otherRun, others, idleRun, idlers, tightRun, roomless}
+use Rattle.diffusion.proofs.Decided.{implies, sameCopy, hands, sentBy, sent, eachHanded, joins, sentAt, faultTests, closeTest, roomTest, wasSent, arrivesTest, isHanded, sound, kept, noLossTest, keepsPremises, decided, roomy, keeps, within-premises}
 
 -- host p is faultless and has reached the reading
 standTests : Witness → ℕ → List Bool
@@ -62,11 +62,13 @@ record Computed : Type 0 where
   plans : map (λ w. planRefusal (w .first 0 .plan)) witnesses ≡ 0 ∷ 0 ∷ 0 ∷ 0 ∷ 0 ∷ 0 ∷ 3 ∷ []
   two : sequence twice 2 ≡ (5, soon) ∷ (6, soon) ∷ []
   other-keeps : keeps (twoHosts 0) (fresh (twoHosts 0) 1) startsOther otherRun ≡ true
-  other-starts : Starts-at others otherRun 0 5 (begun 5 (Halt 7))
-  other-delivers : delivers others otherRun 1 18 ≡ begun 5 (Resume 7) ∷ []
+  other-starts : Starts-at others otherRun 0 0 soon
+  other-delivers : delivers others otherRun 1 4 ≡ begun 0 (Resume 7) ∷ []
   idle-keeps : keeps (twoHosts 0) (fresh (twoHosts 0) 1) idle idleRun ≡ true
-  idle-refuses : Refuses-at idlers idleRun 0 5 14
-  bound-is : bound 1 (twoHosts 0) (worst (twoHosts 0)) ≡ 13
+  idle-refuses : Refuses-at idlers idleRun 0 0 14
+  room-keeps : keepsPremises (twoHosts 0) roomless tightRun (λ u room s. true) ≡ true
+  room-refuses : roomless .refusal 4 0 (before roomless tightRun 1 4) ≡ 22
+  bound-is : bound 1 (twoHosts 0) (worst (twoHosts 0)) ≡ 4
   well : (has 0 0 ≡ false) × (has 0 1 ≡ false)
 
 computed : Computed
@@ -82,6 +84,8 @@ computed =
       other-delivers = refl;
       idle-keeps = refl;
       idle-refuses = inl refl;
+      room-keeps = refl;
+      room-refuses = refl;
       bound-is = refl;
       well = (refl, refl);
     }
@@ -100,27 +104,37 @@ plans-accepted = computed .plans
 pub delivers-twice : sequence twice 2 ≡ (5, soon) ∷ (6, soon) ∷ []
 delivers-twice = computed .two
 
--- host 1 delivers at reading 18 not what host 0 was told to start
+-- host 1 delivers at reading 4 not what host 0 was told to start
 pub held-otherwise : Premises (twoHosts 0) others otherRun × (Claims (twoHosts 0) others otherRun → ⊥)
 held-otherwise = (
   within-premises (twoHosts 0) (fresh (twoHosts 0) 1) startsOther otherRun (computed .other-keeps),
-  λ C. no-halt (C .delivered 0 1 5 18 (begun 5 (Halt 7)) (fine 0 (omega arith) (computed .well .0)) (fine 1 (omega arith) (computed .well .1)) (computed .other-starts) (omega arith) due),
+  λ C. no-halt (C .delivered 0 1 0 4 soon (fine 0 (omega arith) (computed .well .0)) (fine 1 (omega arith) (computed .well .1)) (computed .other-starts) (omega arith) due),
 )
   where
     fine : (p : ℕ) → p < 2 → has 0 p ≡ false → Survivor (twoHosts 0) (otherRun .faults) p
     fine p h e = record { host = h; well = e }
 
-    due : 18 ≡ 5 + bound 1 (twoHosts 0) (worst (twoHosts 0))
-    due = ap (λ (k : ℕ). 5 + k) (sym (computed .bound-is))
+    due : 4 ≡ 0 + bound 1 (twoHosts 0) (worst (twoHosts 0))
+    due = ap (λ (k : ℕ). 0 + k) (sym (computed .bound-is))
 
-    other : In (begun 5 (Halt 7)) (begun 5 (Resume 7) ∷ []) → ⊥
+    other : In soon (begun 0 (Resume 7) ∷ []) → ⊥
     other (inl e) = let kinds = ap (λ (x : Carried). kindOf (x .order)) e in omega arith
     other (inr j) = j
 
-    no-halt : In (begun 5 (Halt 7)) (delivers others otherRun 1 18) → ⊥
-    no-halt i = other (subst (In (begun 5 (Halt 7))) (computed .other-delivers) i)
+    no-halt : In soon (delivers others otherRun 1 4) → ⊥
+    no-halt i = other (subst (In soon) (computed .other-delivers) i)
 
 -- host 0 refuses 14 with an empty history
 pub idle-fails : Premises (twoHosts 0) idlers idleRun × (Claims (twoHosts 0) idlers idleRun → ⊥)
 idle-fails =
-    (within-premises (twoHosts 0) (fresh (twoHosts 0) 1) idle idleRun (computed .idle-keeps), λ C. C .never-14 0 5 (omega arith) (computed .idle-refuses))
+    (within-premises (twoHosts 0) (fresh (twoHosts 0) 1) idle idleRun (computed .idle-keeps), λ C. C .never-14 0 0 (omega arith) (computed .idle-refuses))
+
+-- host 1's tick at reading 4 is refused 22
+pub room-fails : Premises (twoHosts 0) roomless tightRun × (Claims (twoHosts 0) roomless tightRun → ⊥)
+room-fails = (
+  decided (twoHosts 0) roomless tightRun (λ u room s. true) (λ u room s e. tt) (computed .room-keeps),
+  λ C. short (sym (computed .room-refuses) ∙ C .tick-answers 1 4 (omega arith) (omega arith) (omega arith)),
+)
+  where
+    short : _≡_ {A = ℕ} 22 0 → ⊥
+    short e = omega arith

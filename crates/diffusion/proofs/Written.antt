@@ -1,10 +1,10 @@
 -- What a tick delivers in a run is what its answer counts and what it writes, by the definitions of the call. Assumes nothing.
-use mathlib.Core.Path.{_≡_, refl, sym, ap, _∙_, subst}
+use mathlib.Core.Path.{_≡_, refl, sym, ap, _∙_}
 use mathlib.Core.Bool.{Bool, true, false, cond}
 use mathlib.Core.List.{List, [], _∷_, map}
 use Prim.Native.Nat.{ℕ, suc, _*_, _≤_}
 use borrow.Author.Tests.{le-leb}
-use lib.Dec.{leb, eqb}
+use lib.Dec.{eqb}
 use lib.ListN.{length, take, drop}
 use lib.Seq.{take-at, drop-at}
 use Rattle.network.specs.declared.Plan.{Plan}
@@ -13,8 +13,7 @@ use Rattle.host.specs.declared.Host.{Host}
 use Rattle.host.specs.Entries.{entriesOf}
 use Rattle.host.specs.Calls.{SaidTick, unless, dueOf, written, tickRefusal, tickSays, tickList}
 use Rattle.host.proofs.Writes.{entries-length}
-use Rattle.diffusion.specs.Hosts.{Carried}
-use Rattle.diffusion.specs.Run.{Story, reading, roomAt, before, delivers}
+use Rattle.diffusion.specs.Run.{Story, reading, before, delivers}
 use Rattle.diffusion.specs.Ours.{carried, heldAs, ours}
 use Rattle.diffusion.specs.Written.{Written}
 

@@ -10,6 +10,7 @@ use Rattle.network.specs.Network.{bound, diameter}
 use Rattle.network.specs.declared.Plan.{Plan}
 use Rattle.host.specs.declared.Host.{Host}
 use Rattle.host.specs.Calls.{saidBy, unless, cleared, unstarted, due, receiveTests, relayLinks, relayHop, afterReceive}
+use Rattle.diffusion.specs.Hosts as hosts
 use Rattle.diffusion.specs.Hosts.{Carried, Call, start, receive, Answer, refused}
 use Rattle.diffusion.specs.Ours.{shown, heldAs, answered, called}
 use Rattle.diffusion.specs.Example.{faulty}
@@ -43,3 +44,18 @@ idle u h (receive k c) = called u h (receive k c)
 -- a fresh host, but that d is the diameter of the whole network: "Taking d of the whole network"
 abbrev pub wholeD : Plan → ℕ → Host
 wholeD P own = unstarted (cleared P) 1 (diameter P (faulty 0 0)) (bound 1 P (diameter P (faulty 0 0))) own
+
+-- hosts for which a run need lend no room
+abbrev pub unlent : hosts.Host → hosts.Host
+unlent H =
+    record {
+      State = H .State;
+      fresh = H .fresh;
+      call = H .call;
+      refusal = H .refusal;
+      tick = H .tick;
+      delivered = H .delivered;
+      lent = λ u room s. Unit {0};
+      held = H .held;
+      starts = H .starts;
+    }

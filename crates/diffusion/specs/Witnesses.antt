@@ -1,8 +1,10 @@
 -- Runs of hosts that differ from ours in one thing, or were planned for another network than the one they run on: in each two faultless hosts part,
--- or a claim fails. So no premise, no number of the plan and no test is idle. Assumes nothing.
+-- or a claim fails. So what differs in each is not idle. Assumes nothing.
 use mathlib.Core.Path.{_≡_}
+use mathlib.Core.Bool.{cond}
 use mathlib.Core.List.{List, [], _∷_}
 use Prim.Native.Nat.{ℕ, _+_, _≤_}
+use lib.Dec.{eqb}
 use Rattle.lists.specs.Lists.{pad}
 use Rattle.orders.specs.declared.Order.the-variants.{Halt, Resume}
 use Rattle.network.specs.Network.{Survivor}
@@ -13,9 +15,9 @@ use Rattle.host.specs.Calls.{fresh}
 use Rattle.diffusion.specs.Hosts as hosts
 use Rattle.diffusion.specs.Hosts.{Carried, Call, Answer}
 use Rattle.diffusion.specs.Run.{Story, reading, log, upTo, Premises}
-use Rattle.diffusion.specs.Ours.{called, hostsOf}
-use Rattle.diffusion.specs.Example.{story, faulty, told, begun, handed, pair, triangle, casePlan}
-use Rattle.diffusion.specs.Variants.{takesLate, startsOther, idle, wholeD}
+use Rattle.diffusion.specs.Ours.{called, hostsOf, ours}
+use Rattle.diffusion.specs.Example.{callsOf, story, faulty, told, begun, handed, pair, triangle, casePlan}
+use Rattle.diffusion.specs.Variants.{takesLate, startsOther, idle, wholeD, unlent}
 
 -- ---- a run in which two faultless hosts part
 
@@ -45,7 +47,7 @@ pub record Parts (w : Witness) : Type 0 where
 
 abbrev pub twoHosts : ℕ → Plan
 twoHosts L =
-    record { hosts = 2; «faulty_hosts» = 0; «link_count» = 1; «faulty_links» = L; delay = 10; skew = 3; links = pad 12 noLink (pair 0 1 ∷ []) }
+    record { hosts = 2; «faulty_hosts» = 0; «link_count» = 1; «faulty_links» = L; delay = 1; skew = 3; links = pad 12 noLink (pair 0 1 ∷ []) }
 
 -- links 0-1, 0-2, 0-3, 1-2, 1-3, 2-3
 abbrev pub complete : ℕ → ℕ → Plan
@@ -112,7 +114,7 @@ tight first network δ T ahead end =
 
 -- Δ less by 1, since the hosts are planned for ε less by 1
 abbrev pub shortBound : Witness
-shortBound = tight (fresh (triangle 1 0 10 2) 1) casePlan 10 5 2 40
+shortBound = tight (fresh (triangle 1 0 10 2) 1) casePlan 10 5 2 28
 
 -- clocks ε apart
 abbrev pub skewed : Witness
@@ -126,13 +128,13 @@ unplanned = tight (fresh (triangle 0 0 1 3) 1) (triangle 1 0 1 3) 1 0 2 5
 abbrev pub wholeNetwork : Witness
 wholeNetwork =
     record {
-      network = triangle 0 1 10 3;
-      first = wholeD (triangle 0 1 10 3);
+      network = triangle 0 1 1 3;
+      first = wholeD (triangle 0 1 1 3);
       call = called;
-      run = story (0 ∷ 0 ∷ 0 ∷ []) 20 (faulty 0 1) (told 0 0 (Halt 7) ∷ handed 2 10 1 soon ∷ handed 1 20 2 soon ∷ []);
+      run = story (0 ∷ 2 ∷ 0 ∷ []) 5 (faulty 0 1) (told 0 0 (Halt 7) ∷ handed 2 1 1 soon ∷ handed 1 2 2 soon ∷ []);
       one = 0;
       other = 1;
-      until = 13;
+      until = 5;
     }
 
 -- a plan that planning refuses 3: the one link is faulty
@@ -142,10 +144,10 @@ unaccepted =
       network = twoHosts 1;
       first = fresh (twoHosts 1) 1;
       call = called;
-      run = story (0 ∷ 0 ∷ []) 23 (faulty 0 1) (told 0 0 (Halt 7) ∷ []);
+      run = story (0 ∷ 0 ∷ []) 5 (faulty 0 1) (told 0 0 (Halt 7) ∷ []);
       one = 0;
       other = 1;
-      until = 23;
+      until = 5;
     }
 
 abbrev pub witnesses : List Witness
@@ -155,14 +157,22 @@ witnesses = lateCopy ∷ twice ∷ shortBound ∷ skewed ∷ unplanned ∷ whole
 
 -- a start that is held as another order
 abbrev pub otherRun : Story
-otherRun = story (0 ∷ 0 ∷ []) 20 (faulty 0 0) (told 0 5 (Halt 7) ∷ handed 1 6 0 (begun 5 (Resume 7)) ∷ [])
+otherRun = story (0 ∷ 0 ∷ []) 5 (faulty 0 0) (told 0 0 (Halt 7) ∷ handed 1 1 0 (begun 0 (Resume 7)) ∷ [])
 
 abbrev pub others : hosts.Host
 others = hostsOf (fresh (twoHosts 0) 1) startsOther
 
 -- a host that refuses every start
 abbrev pub idleRun : Story
-idleRun = story (0 ∷ 0 ∷ []) 20 (faulty 0 0) (told 0 5 (Halt 7) ∷ [])
+idleRun = story (0 ∷ 0 ∷ []) 5 (faulty 0 0) (told 0 0 (Halt 7) ∷ [])
 
 abbrev pub idlers : hosts.Host
 idlers = hostsOf (fresh (twoHosts 0) 1) idle
+
+-- host 1 is lent no room
+abbrev pub tightRun : Story
+tightRun =
+    record { offset = λ p. 0; calls = callsOf (told 0 0 (Halt 7) ∷ handed 1 1 0 soon ∷ []); room = λ p t. cond (eqb p 1) 0 512; end = 5; faults = faulty 0 0 }
+
+abbrev pub roomless : hosts.Host
+roomless = unlent (ours (twoHosts 0))

@@ -1,7 +1,7 @@
 -- What a tick of a run answers and writes (01, "Tick at U"): what it delivers, no more and no less, refused or not. Assumes nothing.
 use mathlib.Core.Path.{_≡_}
 use mathlib.Core.List.{List, map}
-use Prim.Native.Nat.{ℕ, _*_, _≤_}
+use Prim.Native.Nat.{ℕ, _*_}
 use lib.ListN.{length, take, drop}
 use Rattle.network.specs.declared.Plan.{Plan}
 use Rattle.host.specs.Entries.{entriesOf}
