@@ -5,11 +5,11 @@ use mathlib.Core.Logic.{_⊎_, inl, inr}
 use mathlib.Core.Bool.{Bool, true, false, not, cond}
 use mathlib.Core.List.{List, [], _∷_, _++_}
 use Prim.Native.Nat.{ℕ, suc, _≤_, _<_}
-use native.Mathlib.Nat.{le-trans, min-le-left, le-refl}
+use native.Mathlib.Nat.{le-refl}
 use native.Mathlib.Omega.{arith}
 use borrow.Author.Tests.{leb-false, eqb-true, eq-eqb, not-true}
 use lib.Dec.{leb, ltb, eqb}
-use lib.ListN.{length, length-take}
+use lib.ListN.{length}
 use Rattle.lists.proofs.Places.{take-pad}
 use Rattle.orders.specs.declared.Order.{Order}
 use Rattle.orders.specs.declared.Order.the-variants.{Halt}
@@ -20,7 +20,7 @@ use Rattle.board.specs.declared.Place.{Place}
 use Rattle.board.specs.declared.Board.{Board}
 use Rattle.board.specs.Board.{images, isAbsent, blank, sound, outcome, stands, placed, settle, imagesAfter, holding, boardTests, boardRefusal, boardAfter}
 use Rattle.board.proofs.Boards.{sound-is, absent-one}
-use Rattle.board.proofs.Laws.{made, noRoom, full-changes-nothing, full-absent, one-image, sound-after}
+use Rattle.board.proofs.Laws.{made, noRoom, full-changes-nothing, full-absent, one-image, few-images, sound-after}
 
 -- a board stays sound, whatever it is told
 pub sound-stays : (b : Board) (o : Order) → sound b ≡ true → sound (boardAfter b o) ≡ true
@@ -29,10 +29,6 @@ sound-stays b o s = go (eqb (boardRefusal b o) 0) refl (sound-after b o)
     go : (t : Bool) → eqb (boardRefusal b o) 0 ≡ t → (boardRefusal b o ≡ 0 → sound (boardAfter b o) ≡ true) → sound (boardAfter b o) ≡ true
     go true e f = f (eqb-true _ _ e)
     go false e f = subst (λ (t : Bool). sound (cond t (holding (imagesAfter o (images b))) b) ≡ true) (sym e) s
-
-pub few-images : (b : Board) → sound b ≡ true → length (images b) ≤ 16
-few-images b s =
-    le-trans (subst (λ (k : ℕ). k ≤ b .count) (sym (length-take (b .count) (b .places))) (min-le-left (b .count) (length (b .places)))) (sound-is b s .few)
 
 -- what an order that is not refused leaves
 images-after : (b : Board) (o : Order) → eqb (boardRefusal b o) 0 ≡ true → images (boardAfter b o) ≡ imagesAfter o (images b)
@@ -107,7 +103,7 @@ halt-after b i s = room (noRoom (Halt i) (images b)) refl
     room : (t : Bool) → noRoom (Halt i) (images b) ≡ t
         → (isHalted (stands i (images (boardAfter b (Halt i)))) ≡ true) ⊎ ((length (images b) ≡ 16) × (stands i (images b) ≡ Absent))
     room true e =
-        let few = few-images b s in
+        let few = few-images b (sound-is b s .few) in
         let absent = absent-one _ (full-absent (Halt i) (images b) (sound-is b s .up) few e) in
         let long : 16 < length (made (Halt i) (images b)) = leb-false _ _ (not-true (leb (length (made (Halt i) (images b))) 16) e) in
         let most = settle-most i (outcome (Halt i) (stands i (images b))) (images b) in
