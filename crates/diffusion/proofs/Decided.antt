@@ -190,11 +190,11 @@ module _ (P : Plan) (H : Host) (R : Story) (roomy : ℕ → ℕ → H .State →
   unfoldable pub isHanded : ℕ → ℕ → ℕ → Copy → Bool
   isHanded t k q c = leb (suc (R .end)) (t + δ P) || some (suc (t + δ P)) (λ v. ltb t v && any (hands k c) (callsAt R q v))
 
-  unfoldable pub sound : ℕ → ℕ → ℕ → Bool
-  sound p k q = joins P k p q && (not (has (R .faults .hosts) p) && (not (has (R .faults .links) k) && not (has (R .faults .hosts) q)))
+  unfoldable pub unfaulty : ℕ → ℕ → ℕ → Bool
+  unfaulty p k q = joins P k p q && (not (has (R .faults .hosts) p) && (not (has (R .faults .links) k) && not (has (R .faults .hosts) q)))
 
   unfoldable pub kept : ℕ → ℕ → ℕ → ℕ → Bool
-  kept p t k q = implies (sound p k q) (all (λ e. implies (e .1 k) (isHanded t k q (e .0))) (sentAt p t))
+  kept p t k q = implies (unfaulty p k q) (all (λ e. implies (e .1 k) (isHanded t k q (e .0))) (sentAt p t))
 
   unfoldable pub noLossTest : Bool
   noLossTest = each (n P) (λ p. each (suc (R .end)) (λ t. each (m P) (λ k. each (n P) (kept p t k))))
@@ -254,12 +254,12 @@ module _ (P : Plan) (H : Host) (R : Story) (roomy : ℕ → ℕ → H .State →
 
   no-loss : 1 ≤ δ P → noLossTest ≡ true → (p t k q : ℕ) (c : Copy) → Joins P k p q → Survivor P (R .faults) p → has (R .faults .links) k ≡ false → Survivor P (R .faults) q → Sends-at H R p t c k
       → (v : ℕ) × (t < v) × (v ≤ t + δ P) × (v ≤ R .end → Handed-at H R q v k c)
-  unfolding noLossTest kept sound sentAt
+  unfolding noLossTest kept unfaulty sentAt
   no-loss pos e p t k q c j sp ok sq h =
       let l = in-time (λ s d. Sends (H .call (reading R p t) s d) c k) p t h in
       let at = each-true _ (n P) (each-true _ (m P) (each-true _ (suc (R .end)) (each-true _ (n P) e p (sp .host)) t (omega arith)) k (j .0)) q (sq .host) in
-      let fine : sound p k q ≡ true = rw (is-joins P k p q j, sp .well, ok, sq .well) in
-      let every = implied (sound p k q) _ at fine in
+      let fine : unfaulty p k q ≡ true = rw (is-joins P k p q j, sp .well, ok, sq .well) in
+      let every = implied (unfaulty p k q) _ at fine in
       let z = sent-listed H (reading R p t) (ticked H R p t) (callsAt R p t) c k h in
       let one = implied (z .0 .1 k) _ (all-member _ (sentAt p t) every (z .0) (z .1)) (z .3) in
       handed-in-time t k q c pos (subst (λ (w : Copy). isHanded t k q w ≡ true) (sym (z .2)) one)

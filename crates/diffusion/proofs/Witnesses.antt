@@ -8,25 +8,28 @@ use native.Mathlib.Omega.{arith}
 use borrow.Author.Tests.{leb-true, ltb-true, eqb-false, not-true}
 use lib.Count.{ones}
 use lib.Dec.{leb, ltb, eqb}
-use lib.ListN.{length}
-use Rattle.lists.specs.Lists.{all}
+use lib.ListN.{length, drop}
+use Rattle.lists.specs.Lists.{all, listed}
 use Rattle.lists.specs.Members.{In, All}
 use Rattle.lists.specs.Tests.{allOf, anyOf}
 use Rattle.lists.specs.Searches.{some, each, largest, least}
 use Rattle.lists.proofs.Listed.{all-member}
 use Rattle.lists.proofs.MemberLaws.{in-all}
 use Rattle.lists.proofs.TestLaws.{all-each}
-use Rattle.orders.specs.Orders.{kindOf}
-use Rattle.orders.specs.declared.Order.the-variants.{Resume}
+use Rattle.orders.specs.Orders.{kindOf, imageOf}
+use Rattle.orders.specs.declared.Order.the-variants.{Publish, Resume, Withdraw}
 use Rattle.network.specs.Network.{n, inRange, same, badLink, badLinks, has, survives, via, within, distance, farthest, diameter, worstLinks, worst, bound, window, planTests, planRefusal, Survivor}
 use Rattle.host.specs.State.{soundTests}
+use Rattle.board.specs.Board as board
+use Rattle.board.specs.Board.{imagesAfter, boardTests}
 use Rattle.host.specs.Calls.{setOf, startTests, receiveTests, tickTests, fresh}
 use Rattle.diffusion.specs.Hosts.{Carried}
 use Rattle.diffusion.specs.Run.{reading, run, Some, before, delivers, log, Starts-at, Refuses-at, Premises, Claims}
+use Rattle.diffusion.specs.Boards.{boardBy, offers, Full, Frees, None}
 use Rattle.diffusion.specs.Example.{begun}
 use Rattle.diffusion.specs.Variants.{startsOther, idle}
-use Rattle.diffusion.specs.Witnesses.{Witness, sequence, Parts, twoHosts, soon, twice, witnesses, otherRun, others, idleRun, idlers, tightRun, roomless}
-use Rattle.diffusion.proofs.Decided.{implies, sameCopy, hands, sentBy, sent, eachHanded, joins, sentAt, faultTests, closeTest, roomTest, wasSent, arrivesTest, isHanded, sound, kept, noLossTest, keepsPremises, decided, roomy, keeps, within-premises}
+use Rattle.diffusion.specs.Witnesses.{Witness, sequence, Parts, twoHosts, soon, twice, witnesses, otherRun, others, idleRun, idlers, tightRun, roomless, fullBoard, fullOrders}
+use Rattle.diffusion.proofs.Decided.{implies, sameCopy, hands, sentBy, sent, eachHanded, joins, sentAt, faultTests, closeTest, roomTest, wasSent, arrivesTest, isHanded, unfaulty, kept, noLossTest, keepsPremises, decided, roomy, keeps, within-premises}
 
 -- host p is faultless and has reached the reading
 standTests : Witness → ℕ → List Bool
@@ -68,11 +71,13 @@ record Computed : Type 0 where
   idle-refuses : Refuses-at idlers idleRun 0 0 14
   room-keeps : keepsPremises (twoHosts 0) roomless tightRun (λ u room s. true) ≡ true
   room-refuses : roomless .refusal 4 0 (before roomless tightRun 1 4) ≡ 22
+  full : Full fullBoard 7
+  published : offers (boardBy fullBoard fullOrders) 7 ≡ true
   bound-is : bound 1 (twoHosts 0) (worst (twoHosts 0)) ≡ 4
   well : (has 0 0 ≡ false) × (has 0 1 ≡ false)
 
 computed : Computed
-unfolding partTests standTests keeps roomy keepsPremises implies sameCopy hands sentBy sent eachHanded joins sentAt faultTests closeTest roomTest wasSent arrivesTest isHanded sound kept noLossTest Some log before run soundTests setOf startTests receiveTests tickTests allOf anyOf some each largest least has inRange same badLink badLinks survives via within distance farthest diameter worstLinks worst bound window planTests ones
+unfolding listed boardBy board.sound imagesAfter boardTests partTests standTests keeps roomy keepsPremises implies sameCopy hands sentBy sent eachHanded joins sentAt faultTests closeTest roomTest wasSent arrivesTest isHanded unfaulty kept noLossTest Some log before run soundTests setOf startTests receiveTests tickTests allOf anyOf some each largest least has inRange same badLink badLinks survives via within distance farthest diameter worstLinks worst bound window planTests ones
 computed =
     record {
       parting = refl;
@@ -86,6 +91,8 @@ computed =
       idle-refuses = inl refl;
       room-keeps = refl;
       room-refuses = refl;
+      full = (refl, refl);
+      published = refl;
       bound-is = refl;
       well = (refl, refl);
     }
@@ -138,3 +145,20 @@ room-fails = (
   where
     short : _≡_ {A = ℕ} 22 0 → ⊥
     short e = omega arith
+
+-- a halt that had no room does not keep its image from being offered, though no resume or withdraw of it follows
+pub exception-needed : Full fullBoard 7 × (offers (boardBy fullBoard fullOrders) 7 ≡ true) × None (Frees 7) (drop 1 fullOrders)
+exception-needed = (computed .full, computed .published, kept-off)
+  where
+    other-image : Frees 7 (begun 1 (Withdraw 10)) → ⊥
+    other-image (inl q) = let images = ap imageOf q in omega arith
+    other-image (inr q) = let images = ap imageOf q in omega arith
+
+    other-kind : Frees 7 (begun 2 (Publish 7 50)) → ⊥
+    other-kind (inl q) = let kinds = ap kindOf q in omega arith
+    other-kind (inr q) = let kinds = ap kindOf q in omega arith
+
+    kept-off : None (Frees 7) (drop 1 fullOrders)
+    kept-off y (inl e) f = other-image (subst (Frees 7) e f)
+    kept-off y (inr (inl e)) f = other-kind (subst (Frees 7) e f)
+    kept-off y (inr (inr i)) f = absurd i

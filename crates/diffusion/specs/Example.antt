@@ -11,6 +11,9 @@ use Rattle.network.specs.declared.Link.{Link}
 use Rattle.network.specs.declared.Plan.{Plan}
 use Rattle.network.specs.declared.Faults.{Faults}
 use Rattle.host.specs.State.{noLink}
+use Rattle.board.specs.Board.{holding}
+use Rattle.board.specs.declared.Stand.{Stand}
+use Rattle.board.specs.declared.Board.{Board}
 use Rattle.diffusion.specs.Hosts.{Carried, Call, start, receive}
 use Rattle.diffusion.specs.Run.{Story}
 
@@ -73,3 +76,7 @@ halt = begun 5 (Halt 7)
 -- the copy to host 2 is lost; host 1's relay reaches it, and its own relay reaches host 0, "A copy without a fate takes 1 tick"
 abbrev pub caseStory : Story
 caseStory = story (0 ∷ 0 ∷ 2 ∷ []) 40 (faulty 1 0) (told 0 5 (Halt 7) ∷ handed 1 15 0 halt ∷ handed 2 25 2 halt ∷ handed 0 26 1 halt ∷ [])
+
+-- a board that has image 7 alone
+abbrev pub seven : Stand → Board
+seven stand = holding (record { image = 7; stand = stand } ∷ [])

@@ -5,13 +5,16 @@ use mathlib.Core.Bool.{cond}
 use mathlib.Core.List.{List, [], _∷_}
 use Prim.Native.Nat.{ℕ, _+_, _≤_}
 use lib.Dec.{eqb}
-use Rattle.lists.specs.Lists.{pad}
-use Rattle.orders.specs.declared.Order.the-variants.{Halt, Resume}
+use Rattle.lists.specs.Lists.{pad, listed}
+use Rattle.orders.specs.declared.Order.the-variants.{Publish, Halt, Resume, Withdraw}
 use Rattle.network.specs.Network.{Survivor}
 use Rattle.network.specs.declared.Plan.{Plan}
 use Rattle.host.specs.declared.Host.{Host}
 use Rattle.host.specs.State.{noLink}
 use Rattle.host.specs.Calls.{fresh}
+use Rattle.board.specs.Board.{holding}
+use Rattle.board.specs.declared.Stand.the-variants.{Offered}
+use Rattle.board.specs.declared.Board.{Board}
 use Rattle.diffusion.specs.Hosts as hosts
 use Rattle.diffusion.specs.Hosts.{Carried, Call, Answer}
 use Rattle.diffusion.specs.Run.{Story, reading, log, upTo, Premises}
@@ -176,3 +179,11 @@ tightRun =
 
 abbrev pub roomless : hosts.Host
 roomless = unlent (ours (twoHosts 0))
+
+-- ---- the exception of a halt: a board of 16 images without 7, which is halted, given room and published
+
+abbrev pub fullBoard : Board
+fullBoard = holding (listed 16 (λ i. record { image = 10 + i; stand = Offered 1 }))
+
+abbrev pub fullOrders : List Carried
+fullOrders = soon ∷ begun 1 (Withdraw 10) ∷ begun 2 (Publish 7 50) ∷ []
