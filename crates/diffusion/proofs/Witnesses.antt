@@ -1,14 +1,14 @@
--- Each witness keeps the premises, and in it two faultless hosts have delivered another number of orders; computed. Assumes nothing.
+-- Each witness keeps the premises, and in it two faultless hosts have delivered other sequences; computed. Assumes nothing.
 use mathlib.Core.Path.{_≡_, refl, sym, ap, _∙_, subst}
 use mathlib.Core.Logic.{inl, inr}
-use mathlib.Core.Bool.{Bool, true, false, not}
+use mathlib.Core.Bool.{Bool, true, false, not, _&&_, true≢false}
 use mathlib.Core.List.{List, [], _∷_, map}
 use Prim.Native.Nat.{ℕ, _+_, _<_}
 use native.Mathlib.Omega.{arith}
-use borrow.Author.Tests.{leb-true, ltb-true, eqb-false, not-true}
+use borrow.Author.Tests.{leb-true, ltb-true, eq-eqb, not-true}
 use lib.Count.{ones}
 use lib.Dec.{leb, ltb, eqb}
-use lib.ListN.{length, drop}
+use lib.ListN.{drop}
 use Rattle.lists.specs.Lists.{all, listed}
 use Rattle.lists.specs.Members.{In, All}
 use Rattle.lists.specs.Tests.{allOf, anyOf}
@@ -16,7 +16,8 @@ use Rattle.lists.specs.Searches.{some, each, largest, least}
 use Rattle.lists.proofs.Listed.{all-member}
 use Rattle.lists.proofs.MemberLaws.{in-all}
 use Rattle.lists.proofs.TestLaws.{all-each}
-use Rattle.orders.specs.Orders.{kindOf, imageOf}
+use Rattle.orders.specs.Orders.{kindOf, imageOf, sameOrder}
+use Rattle.orders.proofs.Laws.{equal-same}
 use Rattle.orders.specs.declared.Order.the-variants.{Publish, Resume, Withdraw}
 use Rattle.network.specs.Network.{n, inRange, same, badLink, badLinks, has, survives, via, within, distance, farthest, diameter, worstLinks, worst, bound, window, planTests, planRefusal, Survivor}
 use Rattle.host.specs.State.{soundTests}
@@ -26,10 +27,25 @@ use Rattle.host.specs.Calls.{setOf, startTests, receiveTests, tickTests, fresh}
 use Rattle.diffusion.specs.Hosts.{Carried}
 use Rattle.diffusion.specs.Run.{reading, run, Some, before, delivers, log, Starts-at, Refuses-at, Premises, Claims}
 use Rattle.diffusion.specs.Boards.{boardBy, offers, Full, Frees, None}
-use Rattle.diffusion.specs.Example.{begun}
+use Rattle.diffusion.specs.Example.{begun, twoHosts}
 use Rattle.diffusion.specs.Variants.{startsOther, idle}
-use Rattle.diffusion.specs.Witnesses.{Witness, sequence, Parts, twoHosts, soon, twice, witnesses, otherRun, others, idleRun, idlers, tightRun, roomless, fullBoard, fullOrders}
+use Rattle.diffusion.specs.Witnesses.{Witness, sequence, Parts, soon, twice, witnesses, otherRun, others, idleRun, idlers, tightRun, roomless, fullBoard, fullOrders}
 use Rattle.diffusion.proofs.Decided.{implies, sameCopy, hands, sentBy, sent, eachHanded, joins, sentAt, faultTests, closeTest, roomTest, wasSent, arrivesTest, isHanded, unfaulty, kept, noLossTest, keepsPremises, decided, roomy, keeps, within-premises}
+
+-- two entries of a log, and two logs, are the same
+sameEntry : ℕ × Carried → ℕ × Carried → Bool
+sameEntry a b = eqb (a .0) (b .0) && (eqb (a .1 .stamp) (b .1 .stamp) && (eqb (a .1 .source) (b .1 .source) && sameOrder (a .1 .order) (b .1 .order)))
+
+sameLog : List (ℕ × Carried) → List (ℕ × Carried) → Bool
+sameLog [] [] = true
+sameLog [] (b ∷ m) = false
+sameLog (a ∷ l) [] = false
+sameLog (a ∷ l) (b ∷ m) = sameEntry a b && sameLog l m
+
+same-log : (l : List (ℕ × Carried)) → sameLog l l ≡ true
+unfolding sameLog sameEntry
+same-log [] = refl
+same-log (a ∷ l) = rw (eq-eqb (a .0) (a .0) refl, eq-eqb (a .1 .stamp) (a .1 .stamp) refl, eq-eqb (a .1 .source) (a .1 .source) refl, equal-same (a .1 .order) (a .1 .order) refl, same-log l)
 
 -- host p is faultless and has reached the reading
 standTests : Witness → ℕ → List Bool
@@ -40,7 +56,7 @@ partTests w =
     keeps (w .network) (w .first) (w .call) (w .run)
     ∷ allOf (standTests w (w .one))
     ∷ allOf (standTests w (w .other))
-    ∷ not (eqb (length (sequence w (w .one))) (length (sequence w (w .other))))
+    ∷ not (sameLog (sequence w (w .one)) (sequence w (w .other)))
     ∷ []
 
 parts : (w : Witness) → allOf (partTests w) ≡ true → Parts w
@@ -55,14 +71,14 @@ parts w e =
       other-faultless = record { host = ltb-true _ _ (b .0); well = not-true _ (b .1 .0) };
       reached = leb-true _ _ (a .1 .1 .0);
       other-reached = leb-true _ _ (b .1 .1 .0);
-      part = λ q. eqb-false _ _ (not-true _ (t .1 .1 .1 .0)) (ap length q);
+      part = λ q. true≢false (sym (subst (λ m. sameLog (sequence w (w .one)) m ≡ true) q (same-log (sequence w (w .one)))) ∙ not-true _ (t .1 .1 .1 .0));
     }
 
 -- what is found by computing
 record Computed : Type 0 where
   parting : all (λ w. allOf (partTests w)) witnesses ≡ true
-  networks : map (λ w. planRefusal (w .network)) witnesses ≡ 0 ∷ 0 ∷ 0 ∷ 0 ∷ 0 ∷ 0 ∷ 3 ∷ []
-  plans : map (λ w. planRefusal (w .first 0 .plan)) witnesses ≡ 0 ∷ 0 ∷ 0 ∷ 0 ∷ 0 ∷ 0 ∷ 3 ∷ []
+  networks : map (λ w. planRefusal (w .network)) witnesses ≡ 0 ∷ 0 ∷ 0 ∷ 0 ∷ 0 ∷ 0 ∷ 0 ∷ 3 ∷ []
+  plans : map (λ w. planRefusal (w .first 0 .plan)) witnesses ≡ 0 ∷ 0 ∷ 0 ∷ 0 ∷ 0 ∷ 0 ∷ 0 ∷ 3 ∷ []
   two : sequence twice 2 ≡ (5, soon) ∷ (6, soon) ∷ []
   other-keeps : keeps (twoHosts 0) (fresh (twoHosts 0) 1) startsOther otherRun ≡ true
   other-starts : Starts-at others otherRun 0 0 soon
@@ -77,7 +93,7 @@ record Computed : Type 0 where
   well : (has 0 0 ≡ false) × (has 0 1 ≡ false)
 
 computed : Computed
-unfolding listed boardBy board.sound imagesAfter boardTests partTests standTests keeps roomy keepsPremises implies sameCopy hands sentBy sent eachHanded joins sentAt faultTests closeTest roomTest wasSent arrivesTest isHanded unfaulty kept noLossTest Some log before run soundTests setOf startTests receiveTests tickTests allOf anyOf some each largest least has inRange same badLink badLinks survives via within distance farthest diameter worstLinks worst bound window planTests ones
+unfolding sameLog sameEntry listed boardBy board.sound imagesAfter boardTests partTests standTests keeps roomy keepsPremises implies sameCopy hands sentBy sent eachHanded joins sentAt faultTests closeTest roomTest wasSent arrivesTest isHanded unfaulty kept noLossTest Some log before run soundTests setOf startTests receiveTests tickTests allOf anyOf some each largest least has inRange same badLink badLinks survives via within distance farthest diameter worstLinks worst bound window planTests ones
 computed =
     record {
       parting = refl;
@@ -101,10 +117,10 @@ pub all-part : All Parts witnesses
 all-part = in-all Parts witnesses (λ w i. parts w (all-member (λ (v : Witness). allOf (partTests v)) witnesses (computed .parting) w i))
 
 -- planning accepts the network, and the plan that the hosts were made by, of each witness but the last
-pub networks-accepted : map (λ w. planRefusal (w .network)) witnesses ≡ 0 ∷ 0 ∷ 0 ∷ 0 ∷ 0 ∷ 0 ∷ 3 ∷ []
+pub networks-accepted : map (λ w. planRefusal (w .network)) witnesses ≡ 0 ∷ 0 ∷ 0 ∷ 0 ∷ 0 ∷ 0 ∷ 0 ∷ 3 ∷ []
 networks-accepted = computed .networks
 
-pub plans-accepted : map (λ w. planRefusal (w .first 0 .plan)) witnesses ≡ 0 ∷ 0 ∷ 0 ∷ 0 ∷ 0 ∷ 0 ∷ 3 ∷ []
+pub plans-accepted : map (λ w. planRefusal (w .first 0 .plan)) witnesses ≡ 0 ∷ 0 ∷ 0 ∷ 0 ∷ 0 ∷ 0 ∷ 0 ∷ 3 ∷ []
 plans-accepted = computed .plans
 
 -- accepting at T + Δ, a host delivers one order at two readings

@@ -30,7 +30,7 @@ orders H R p t = map (λ e. e .1) (log H R p t)
 abbrev pub boardOf : Host → Story → Board → ℕ → ℕ → Board
 boardOf H R b p t = boardBy b (orders H R p t)
 
--- some faultless host took x, and x is due at readings from U on: T + Δ ≤ U
+-- some faultless host took x, and x is due by reading U: T + Δ ≤ U
 abbrev pub Due : Plan → Host → Story → ℕ → Carried → Type 0
 Due P H R U x = (p : ℕ) × (t : ℕ) × Survivor P (R .faults) p × Takes-at H R p t x × (x .stamp + bound 1 P (worst P) ≤ U)
 

@@ -3,7 +3,7 @@ use mathlib.Core.Bool.{cond, _&&_}
 use mathlib.Core.List.{List, [], _∷_}
 use Prim.Native.Nat.{ℕ}
 use lib.Dec.{eqb}
-use lib.ListN.{getD}
+use lib.ListN.{length, getD}
 use Rattle.lists.specs.Lists.{pad}
 use Rattle.orders.specs.declared.Order.{Order}
 use Rattle.orders.specs.declared.Order.the-variants.{Halt}
@@ -47,22 +47,33 @@ begun T o = record { stamp = T; source = 0; order = o }
 abbrev pub handed : ℕ → ℕ → ℕ → Carried → Event
 handed q t k x = record { host = q; tick = t; call = receive k (record { what = x; hop = 0 }) }
 
--- ---- the networks of 01's table
+-- ---- networks
 
-abbrev pub pair : ℕ → ℕ → Link
+abbrev pair : ℕ → ℕ → Link
 pair a b = record { a = a; b = b }
 
-abbrev pub triangle : ℕ → ℕ → ℕ → ℕ → Plan
-triangle π L δ ε =
+-- a plan of n hosts with these links
+abbrev network : ℕ → ℕ → ℕ → ℕ → ℕ → List Link → Plan
+network n π L δ ε links =
     record {
-      hosts = 3;
+      hosts = n;
       «faulty_hosts» = π;
-      «link_count» = 3;
+      «link_count» = length links;
       «faulty_links» = L;
       delay = δ;
       skew = ε;
-      links = pad 12 noLink (pair 0 1 ∷ pair 0 2 ∷ pair 1 2 ∷ []);
+      links = pad 12 noLink links;
     }
+
+abbrev pub twoHosts : ℕ → Plan
+twoHosts L = network 2 0 L 1 3 (pair 0 1 ∷ [])
+
+abbrev pub triangle : ℕ → ℕ → ℕ → ℕ → Plan
+triangle π L δ ε = network 3 π L δ ε (pair 0 1 ∷ pair 0 2 ∷ pair 1 2 ∷ [])
+
+-- four hosts, each joined to each
+abbrev pub complete : ℕ → ℕ → Plan
+complete π δ = network 4 π 0 δ 3 (pair 0 1 ∷ pair 0 2 ∷ pair 0 3 ∷ pair 1 2 ∷ pair 1 3 ∷ pair 2 3 ∷ [])
 
 -- ---- "Case: triangle, links 0-1, 0-2, 1-2, π 1, L 0, δ 10, ε 3, host 0 faulty, offsets 0 0 2, end 40, start at tick 5 on host 0: halt 7; fates
 -- 0,0,0,10; 0,1,0,0; 0,2,0,10"

@@ -53,6 +53,6 @@ hostsOf first call =
       starts = λ h. backwards (startsOf h);
     }
 
--- ours, made by planning's plan under the first rules
+-- ours: "Making a host takes Δ from planning"; the first rules
 abbrev pub ours : Plan → hosts.Host
 ours P = hostsOf (fresh P 1) called

@@ -11,7 +11,7 @@ use Rattle.network.specs.declared.Plan.{Plan}
 use Rattle.host.specs.declared.Host.{Host}
 use Rattle.host.specs.Calls.{saidBy, unless, cleared, unstarted, due, receiveTests, relayLinks, relayHop, afterReceive}
 use Rattle.diffusion.specs.Hosts as hosts
-use Rattle.diffusion.specs.Hosts.{Carried, Call, start, receive, Answer, refused}
+use Rattle.diffusion.specs.Hosts.{Carried, Call, start, receive, Answer, refused, accepted}
 use Rattle.diffusion.specs.Ours.{shown, heldAs, answered, called}
 use Rattle.diffusion.specs.Example.{faulty}
 
@@ -35,6 +35,15 @@ otherwise (Withdraw image) = Withdraw image
 abbrev pub startsOther : ℕ → Host → Call → Answer Host
 startsOther u h (start o) = called u h (start (otherwise o))
 startsOther u h (receive k c) = called u h (receive k c)
+
+-- the calls, but that a halt that is started and held is sent as a resume
+abbrev pub sentOther : Answer Host → Answer Host
+sentOther (refused r) = refused r
+sentOther (accepted h x on hop) = accepted h (record { stamp = x .stamp; source = x .source; order = otherwise (x .order) }) on hop
+
+abbrev pub sendsOther : ℕ → Host → Call → Answer Host
+sendsOther u h (start o) = sentOther (called u h (start o))
+sendsOther u h (receive k c) = called u h (receive k c)
 
 -- the calls, but that every start is refused 14
 abbrev pub idle : ℕ → Host → Call → Answer Host

@@ -5,12 +5,11 @@ use mathlib.Core.Bool.{cond}
 use mathlib.Core.List.{List, [], _∷_}
 use Prim.Native.Nat.{ℕ, _+_, _≤_}
 use lib.Dec.{eqb}
-use Rattle.lists.specs.Lists.{pad, listed}
+use Rattle.lists.specs.Lists.{listed}
 use Rattle.orders.specs.declared.Order.the-variants.{Publish, Halt, Resume, Withdraw}
 use Rattle.network.specs.Network.{Survivor}
 use Rattle.network.specs.declared.Plan.{Plan}
 use Rattle.host.specs.declared.Host.{Host}
-use Rattle.host.specs.State.{noLink}
 use Rattle.host.specs.Calls.{fresh}
 use Rattle.board.specs.Board.{holding}
 use Rattle.board.specs.declared.Stand.the-variants.{Offered}
@@ -19,8 +18,8 @@ use Rattle.diffusion.specs.Hosts as hosts
 use Rattle.diffusion.specs.Hosts.{Carried, Call, Answer}
 use Rattle.diffusion.specs.Run.{Story, reading, log, upTo, Premises}
 use Rattle.diffusion.specs.Ours.{called, hostsOf, ours}
-use Rattle.diffusion.specs.Example.{callsOf, story, faulty, told, begun, handed, pair, triangle, casePlan}
-use Rattle.diffusion.specs.Variants.{takesLate, startsOther, idle, wholeD, unlent}
+use Rattle.diffusion.specs.Example.{callsOf, story, faulty, told, begun, handed, twoHosts, complete, triangle, casePlan}
+use Rattle.diffusion.specs.Variants.{takesLate, startsOther, sendsOther, idle, wholeD, unlent}
 
 -- ---- a run in which two faultless hosts part
 
@@ -45,25 +44,6 @@ pub record Parts (w : Witness) : Type 0 where
   pub reached : w .until ≤ reading (w .run) (w .one) (w .run .end)
   pub other-reached : w .until ≤ reading (w .run) (w .other) (w .run .end)
   pub part : sequence w (w .one) ≡ sequence w (w .other) → ⊥
-
--- ---- the networks
-
-abbrev pub twoHosts : ℕ → Plan
-twoHosts L =
-    record { hosts = 2; «faulty_hosts» = 0; «link_count» = 1; «faulty_links» = L; delay = 1; skew = 3; links = pad 12 noLink (pair 0 1 ∷ []) }
-
--- links 0-1, 0-2, 0-3, 1-2, 1-3, 2-3
-abbrev pub complete : ℕ → ℕ → Plan
-complete π δ =
-    record {
-      hosts = 4;
-      «faulty_hosts» = π;
-      «link_count» = 6;
-      «faulty_links» = 0;
-      delay = δ;
-      skew = 3;
-      links = pad 12 noLink (pair 0 1 ∷ pair 0 2 ∷ pair 0 3 ∷ pair 1 2 ∷ pair 1 3 ∷ pair 2 3 ∷ []);
-    }
 
 -- ---- the witnesses
 
@@ -153,15 +133,29 @@ unaccepted =
       until = 5;
     }
 
+-- host 0 is told to halt the image, and host 1 is handed a resume of it
+abbrev pub otherRun : Story
+otherRun = story (0 ∷ 0 ∷ []) 5 (faulty 0 0) (told 0 0 (Halt 7) ∷ handed 1 1 0 (begun 0 (Resume 7)) ∷ [])
+
+-- what is sent is another order than the one that is held
+abbrev pub altered : Witness
+altered =
+    record {
+      network = twoHosts 0;
+      first = fresh (twoHosts 0) 1;
+      call = sendsOther;
+      run = otherRun;
+      one = 0;
+      other = 1;
+      until = 5;
+    }
+
 abbrev pub witnesses : List Witness
-witnesses = lateCopy ∷ twice ∷ shortBound ∷ skewed ∷ unplanned ∷ wholeNetwork ∷ unaccepted ∷ []
+witnesses = lateCopy ∷ twice ∷ shortBound ∷ skewed ∷ unplanned ∷ wholeNetwork ∷ altered ∷ unaccepted ∷ []
 
 -- ---- runs of two faultless hosts in which another claim fails
 
 -- a start that is held as another order
-abbrev pub otherRun : Story
-otherRun = story (0 ∷ 0 ∷ []) 5 (faulty 0 0) (told 0 0 (Halt 7) ∷ handed 1 1 0 (begun 0 (Resume 7)) ∷ [])
-
 abbrev pub others : hosts.Host
 others = hostsOf (fresh (twoHosts 0) 1) startsOther
 
