@@ -25,7 +25,7 @@ sound-is b e =
     let t = all-each _ e in
     record { few = leb-true _ _ (t .0); fit = t .1 .0; up = t .1 .1 .0; rest = t .1 .1 .1 .0 }
 
-absent-one : (s : Stand) → isAbsent s ≡ true → s ≡ Absent
+pub absent-one : (s : Stand) → isAbsent s ≡ true → s ≡ Absent
 absent-one Absent e = refl
 absent-one (Offered share) e = cc
 absent-one (Halted share) e = cc

@@ -130,6 +130,9 @@ outcome-fit (Withdraw image) Absent fits was some = absurd (true≢false some)
 outcome-fit (Withdraw image) (Offered old) fits was some = absurd (true≢false some)
 outcome-fit (Withdraw image) (Halted old) fits was some = absurd (true≢false some)
 
+pub few-images : (b : Board) → b .count ≤ 16 → length (images b) ≤ 16
+few-images b h = le-trans (subst (λ (k : ℕ). k ≤ b .count) (sym (length-take (b .count) (b .places))) (min-le-left (b .count) (length (b .places)))) h
+
 pub sound-after : (b : Board) (o : Order) → boardRefusal b o ≡ 0 → sound (boardAfter b o) ≡ true
 unfolding boardTests imagesAfter
 sound-after b o none =
@@ -140,11 +143,8 @@ sound-after b o none =
     let new = outcome o (stands i l) in
     let fit = settle-fit i new (outcome-fit o (stands i l) (not-false _ (t .1 .0)) (stands-fit i l (s .fit))) l (s .fit) in
     subst (λ (r : ℕ). sound (cond (eqb r 0) (holding (imagesAfter o l)) b) ≡ true) (sym none)
-    (go (leb (length (made o l)) 16) refl fit (settle-rises i new l (s .up)) (few (s .few)) (s .fit) (s .up))
+    (go (leb (length (made o l)) 16) refl fit (settle-rises i new l (s .up)) (few-images b (s .few)) (s .fit) (s .up))
   where
-    few : b .count ≤ 16 → length (images b) ≤ 16
-    few h = le-trans (subst (λ (k : ℕ). k ≤ b .count) (sym (length-take (b .count) (b .places))) (min-le-left (b .count) (length (b .places)))) h
-
     go : (t : Bool) → leb (length (made o (images b))) 16 ≡ t
         → all placeFits (made o (images b)) ≡ true → rising before (made o (images b)) ≡ true → length (images b) ≤ 16
         → all placeFits (images b) ≡ true → rising before (images b) ≡ true

@@ -5,3 +5,4 @@ mod Boards
 mod Makings
 mod Settling
 pub mod Laws
+pub mod Stands

@@ -14,4 +14,9 @@ pub mod Ours
 pub mod OurStarts
 pub mod OurCopies
 pub mod Follows
+pub mod Boards
 pub mod Demand3
+pub mod Decided
+pub mod Example
+pub mod Witnesses
+pub mod Written

@@ -146,7 +146,7 @@ module _ (P : Plan) (H : Host) (L : Laws P H) (B : FirstRules P H L) where
   -- an order is taken before it is due
   take-time : 1 ≤ Δ P → (p U : ℕ) (s : H .State) (c : Call) (x : Carried) → L .Ok p U s → Takes (H .call U s c) x → U < x .stamp + Δ P
   take-time b p U s (start o) x ok h = let e = ap (λ (z : Carried). z .stamp) (L .take-start p U s o x ok h .0) in omega arith
-  take-time b p U s (receive k d) x ok h = B .take-receive p U s k d x ok h .1
+  take-time b p U s (receive k d) x ok h = let soon = B .take-receive p U s k d x ok h .1 in omega arith
 
   module _ (R : Story) (M : Timed P H R) (b : 1 ≤ Δ P) where
     pub ok-before : (p t : ℕ) → p < n P → L .Ok p (reading R p t) (before H R p t)

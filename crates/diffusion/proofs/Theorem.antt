@@ -129,12 +129,26 @@ module _ (P : Plan) (F : Sturdy P) (H : Host) (L : Laws P H) (B : FirstRules P H
       up : (p : ℕ) → p < n P → upTo H R U (log H R p (R .end)) ≡ map entry (keep (λ x. leb (x .stamp + Δ P) U) (seq p (R .end)))
       up p h = ap (keep (λ e. leb (e .0) U)) (log-is p (R .end) h) ∙ keep-map (λ e. leb (e .0) U) entry (seq p (R .end))
 
-  rises : (p : ℕ) → p < n P → Rising (map (λ e. e .1) (log H R p (R .end)))
+  pub rises : (p t : ℕ) → p < n P → Rising (map (λ e. e .1) (log H R p t))
   unfolding entry There seq
-  rises p h =
+  rises p t h =
       subst Rising
-      (sym (ap (map (λ (e : ℕ × Carried). e .1)) (log-is p (R .end) h) ∙ map-map (λ (e : ℕ × Carried). e .1) entry (seq p (R .end)) ∙ map-self (seq p (R .end))))
-      (Agreement.sequence-rises (Δ P) (R .end) There Fine (reading R) (delivers H R) (Takes-at H R) keeps p (R .end) h)
+      (sym (ap (map (λ (e : ℕ × Carried). e .1)) (log-is p t h) ∙ map-map (λ (e : ℕ × Carried). e .1) entry (seq p t) ∙ map-self (seq p t)))
+      (Agreement.sequence-rises (Δ P) (R .end) There Fine (reading R) (delivers H R) (Takes-at H R) keeps p t h)
+
+  -- what a host delivers it took; and what a faultless host took each has delivered once it is due there
+  pub delivered-taken : (p t : ℕ) (x : Carried) → p < n P → In x (delivers H R p t) → (v : ℕ) × Takes-at H R p v x × (x .stamp + Δ P ≤ reading R p t)
+  delivered-taken p t x h i =
+      let w = was-held p t x h i in
+      let k = Life.held-taken P H L B R M b1 p t x (w .0) in
+      (k .0, k .2, w .1)
+
+  pub taken-delivered : (p v : ℕ) (x : Carried) → Survivor P (R .faults) p → Takes-at H R p v x → (q t : ℕ) → Survivor P (R .faults) q → t ≤ R .end → x .stamp + Δ P ≤ reading R q t
+      → (u : ℕ) × (u ≤ t) × In x (delivers H R q u)
+  unfolding Fine
+  taken-delivered p v x fp k q t fq l h =
+      let r = Agreement.all-deliver (Δ P) (R .end) There Fine (reading R) (delivers H R) (Takes-at H R) keeps p v x fp k q t fq l h in
+      (suc (r .0), r .1, r .4)
 
   delivered : (s q t u : ℕ) (x : Carried) → Survivor P (R .faults) s → Survivor P (R .faults) q → Starts-at H R s t x → u ≤ R .end → reading R q u ≡ x .stamp + Δ P → In x (delivers H R q u)
   unfolding Fine
@@ -147,7 +161,7 @@ module _ (P : Plan) (F : Sturdy P) (H : Host) (L : Laws P H) (B : FirstRules P H
       at (yes l) = let b = v .3 in absurd (omega arith)
       at (no ne) = let l = v .1 in subst (λ z. In x (delivers H R q z)) {x = suc (v .0)} {y = u} (omega (arith, ne, l)) (v .4)
 
-  started : (p t : ℕ) (x : Carried) → p < n P → In x (delivers H R p t) → (s : ℕ) × (u : ℕ) × (s < n P) × (u < t) × Starts-at H R s u x
+  pub started : (p t : ℕ) (x : Carried) → p < n P → In x (delivers H R p t) → (s : ℕ) × (u : ℕ) × (s < n P) × (u < t) × Starts-at H R s u x
   started p t x h i =
       let k = Life.held-taken P H L B R M b1 p t x (was-held p t x h i .0) in
       let r = Spread.taken-root P F H L B R M p (k .0) x h (k .2) in
@@ -301,5 +315,5 @@ theorem P H R F L B M =
       copy-answers = copy-answers P F H L B R M;
       tick-answers = tick-answers P F H L B R M;
       on-time = λ p t x h l i. on-time P F H L B R M p t x h i;
-      rises = rises P F H L B R M;
+      rises = λ p h. rises P F H L B R M p (R .end) h;
     }

@@ -37,13 +37,14 @@ abbrev pub backwards : List Reading → List ℕ
 backwards [] = []
 backwards (r ∷ l) = backwards l ++ (r .0 ∷ [])
 
--- "Delivered means answered and written": what is due, where the tick is not refused
-abbrev pub ours : Plan → hosts.Host
-ours P =
+-- hosts with these states at first and these answers to a start and a receive. A tick delivers what is due where it is not refused: "Every held order
+-- with T + Δ ≤ U is written to the lent list .. the answer is their number", "A refused one sets nothing"
+abbrev pub hostsOf : (ℕ → Host) → (ℕ → Host → Call → Answer Host) → hosts.Host
+hostsOf first call =
     record {
       State = Host;
-      fresh = fresh P 1;
-      call = called;
+      fresh = first;
+      call = call;
       refusal = λ u room h. tickRefusal h u room;
       tick = λ u room h. tickHost h (shown u) room;
       delivered = λ u room h. map carried (unless (tickRefusal h u room) (dueOf h u) []);
@@ -51,3 +52,7 @@ ours P =
       held = λ h. map carried (heldOf h);
       starts = λ h. backwards (startsOf h);
     }
+
+-- ours: "Making a host takes Δ from planning"; the first rules
+abbrev pub ours : Plan → hosts.Host
+ours P = hostsOf (fresh P 1) called
