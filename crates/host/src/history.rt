@@ -2,6 +2,7 @@
 use crate::Held;
 use clock::Reading;
 use clock::is_stamp;
+use clock::reached;
 use orders::same;
 use orders::share_fits;
 ghost use mathlib.Core.Path.{_≡_};
@@ -11,7 +12,7 @@ ghost use Prim.Native.Nat.{_+_, _≤_, _<_};
 ghost use lib.ListN.{take, drop, length};
 ghost use Rattle.lists.specs.Lists.{all, any, rising, insert, pad};
 ghost use Rattle.host.specs.State.{noHeld, isNoHeld, sameName, before, fits, ownStarted};
-ghost use Rattle.host.specs.Calls.{sameHeld, otherHeld};
+ghost use Rattle.host.specs.Calls.{due, sameHeld, otherHeld};
 
 // What is held under an order's name.
 pub(crate) struct Seen {
@@ -53,6 +54,13 @@ fn has_name(x: Held, e: Held) -> bool
     ensures { λ r. ⌜ r ≡ sameName x e ⌝ }
 {
     (x.stamp.0 == e.stamp.0) & (x.source == e.source)
+}
+
+// Whether an order is due.
+pub(crate) fn is_due(e: Held, bound: u64, u: Reading) -> bool
+    ensures { λ r. ⌜ r ≡ due bound (u .0) e ⌝ }
+{
+    reached(e.stamp, bound, u)
 }
 
 fn is_before(x: Held, e: Held) -> bool

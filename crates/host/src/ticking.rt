@@ -7,12 +7,12 @@ use crate::Ticked;
 use crate::Verdict;
 use crate::checks::or_if;
 use crate::entries::put_entry;
+use crate::history::is_due;
 use crate::sound::is_sound;
 use crate::states::at_reading;
 use crate::unused::no_held;
 use clock::Reading;
 use clock::is_reading;
-use clock::reached;
 ghost use mathlib.Core.Path.{_≡_};
 ghost use mathlib.Core.Bool.{true};
 ghost use Prim.Native.Nat.{_*_, _≤_};
@@ -91,7 +91,7 @@ fn count_due(history: [Held; 32], held: usize, bound: u64, u: Reading) -> usize
     while i < held {
         let e = history[i];
         i += 1;
-        if reached(e.stamp, bound, u) {
+        if is_due(e, bound, u) {
             n += 1;
         }
     }
@@ -113,7 +113,7 @@ fn deliver(out: &mut [u8], history: [Held; 32], held: usize, bound: u64, u: Read
     while i < held {
         let e = history[i];
         i += 1;
-        if reached(e.stamp, bound, u) {
+        if is_due(e, bound, u) {
             put_entry(out, 16 * delivered, e);
             delivered += 1;
         } else {
