@@ -30,3 +30,12 @@ pub(crate) fn at_reading(
         history,
     }
 }
+
+// The state at a later reading, all else as it was.
+pub(crate) fn later(host: Host, u: Reading) -> Host
+    ensures { λ r. ⌜ r ≡ with host u (host .starts) (host .started) (host .history) (host .held) ⌝ }
+{
+    let mut after = host;
+    after.last = u;
+    after
+}
