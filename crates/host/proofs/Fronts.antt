@@ -15,8 +15,8 @@ use Rattle.lists.proofs.Places.{padded}
 use Rattle.clock.specs.declared.Reading.{Reading}
 use Rattle.host.specs.declared.Held.{Held}
 use Rattle.host.specs.declared.Host.{Host}
-use Rattle.host.specs.State.{noHeld, isNoHeld, heldOf, before}
-use Rattle.host.specs.Calls.{with, due, dueOf, waitingOf, written, afterTick}
+use Rattle.host.specs.State.{noHeld, isNoHeld, heldOf, before, with}
+use Rattle.host.specs.Tick.{due, dueOf, waitingOf, written, afterTick}
 use Rattle.host.proofs.Blanks.{only-held}
 use Rattle.host.proofs.Facts.{SoundIs}
 use Rattle.host.proofs.Names.{Goes, before-is}

@@ -12,7 +12,8 @@ ghost use Prim.Native.Nat.{_+_, _≤_, _<_};
 ghost use lib.ListN.{take, drop, length};
 ghost use Rattle.lists.specs.Lists.{all, any, rising, insert, pad};
 ghost use Rattle.host.specs.State.{noHeld, isNoHeld, sameName, before, fits, ownStarted};
-ghost use Rattle.host.specs.Calls.{due, sameHeld, otherHeld};
+ghost use Rattle.host.specs.Receive.{sameHeld, otherHeld};
+ghost use Rattle.host.specs.Tick.{due};
 
 // What is held under an order's name.
 pub(crate) struct Seen {

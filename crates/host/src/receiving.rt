@@ -26,7 +26,9 @@ ghost use Prim.Native.Nat.{_+_, _≤_};
 ghost use lib.Dec.{eqb, leb};
 ghost use Rattle.network.specs.Network.{m};
 ghost use Rattle.host.specs.State.{sound};
-ghost use Rattle.host.specs.Calls.{refusalOf, says, inPlan, copyFits, early, late, otherLinks, relayHop, receiveRefusal, receiveSays, receiveHost};
+ghost use Rattle.host.specs.Answers.{refusalOf, says};
+ghost use Rattle.host.specs.OwnLinks.{otherLinks};
+ghost use Rattle.host.specs.Receive.{inPlan, copyFits, early, late, relayHop, receiveRefusal, receiveSays, receiveHost};
 
 // The order is held, to be relayed on all own links but the one it came over; or the state comes back as it was.
 pub fn receive(host: Host, u: Reading, arrival: u8, hop: u8, copy: Held) -> Acted

@@ -3,7 +3,7 @@ use crate::Held;
 use crate::Host;
 use clock::Reading;
 ghost use mathlib.Core.Path.{_≡_};
-ghost use Rattle.host.specs.Calls.{with};
+ghost use Rattle.host.specs.State.{with};
 
 // The state with these parts in place of its own; the plan, the rule set, the bound and the host's number stay.
 pub(crate) fn at_reading(

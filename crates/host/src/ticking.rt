@@ -21,7 +21,8 @@ ghost use lib.Dec.{eqb};
 ghost use lib.ListN.{length, take};
 ghost use Rattle.lists.specs.Lists.{pad};
 ghost use Rattle.host.specs.State.{noHeld, sound};
-ghost use Rattle.host.specs.Calls.{refusalOf, saysTick, dueOf, dueIn, waitingIn, written, tickRefusal, tickSays, tickHost, tickList};
+ghost use Rattle.host.specs.Answers.{refusalOf, saysTick};
+ghost use Rattle.host.specs.Tick.{dueOf, dueIn, waitingIn, written, tickRefusal, tickSays, tickHost, tickList};
 
 // Every order that is due leaves the history for the lent list; or the state comes back as it was, and the list keeps its bytes.
 pub fn tick(host: Host, u: Reading, out: &mut [u8]) -> Ticked

@@ -4,7 +4,7 @@ use mathlib.Core.Path.{refl, ap}
 use mathlib.Core.Bool.{Bool, not, _&&_}
 use lib.ListN.{drop}
 use Rattle.lists.proofs.TestLaws.{or-step}
-use Rattle.host.specs.Calls.{receiveTests}
+use Rattle.host.specs.Receive.{receiveTests}
 use Rattle.host.proofs.Facts.{sound-is, past-sound}
 use Rattle.network.proofs.Ranges.{ranges}
 use lib.Dec.{eqb}

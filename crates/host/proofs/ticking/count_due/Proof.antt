@@ -6,7 +6,7 @@ use Prim.Native.Nat.{ℕ, _+_, _-_, _≤_}
 use lib.ListN.{length, take}
 use Rattle.lists.specs.Lists.{keep}
 use Rattle.host.specs.State.{noHeld}
-use Rattle.host.specs.Calls.{due}
+use Rattle.host.specs.Tick.{due}
 use Rattle.lists.proofs.Loops.{keep-no, count-yes}
 use Rattle.host.proofs.ticking.count_due.Statement.{statement}
 use Rattle.host.proofs.ticking.count_due.Tie as tie

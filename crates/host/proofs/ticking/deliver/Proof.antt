@@ -11,7 +11,7 @@ use Rattle.lists.specs.Lists.{keep, pad}
 use Rattle.lists.proofs.Places.{pad-more}
 use Rattle.host.specs.State.{noHeld}
 use Rattle.host.specs.Entries.{entriesOf}
-use Rattle.host.specs.Calls.{due}
+use Rattle.host.specs.Tick.{due}
 use Rattle.lists.proofs.Loops.{keep-yes, keep-no, count-yes, keep-grows}
 use Rattle.host.proofs.Writes.{entries-turn}
 use Rattle.host.proofs.ticking.deliver.Statement.{statement}

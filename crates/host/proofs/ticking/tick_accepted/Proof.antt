@@ -3,7 +3,7 @@ use borrow.Author.Needs.{needs}
 use mathlib.Core.Path.{_≡_, sym, _∙_}
 use borrow.Author.Tests.{eqb-true}
 use lib.ListN.{length, length-map}
-use Rattle.host.specs.Calls.{dueOf}
+use Rattle.host.specs.Tick.{dueOf}
 use Rattle.host.proofs.Facts.{tick-is, is-sound}
 use Rattle.host.proofs.Fronts.{idle, none-written}
 use Rattle.host.proofs.ticking.tick_accepted.Statement.{statement}

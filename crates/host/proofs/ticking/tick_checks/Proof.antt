@@ -6,7 +6,7 @@ use mathlib.Core.Bool.{not}
 use lib.ListN.{drop}
 use Prim.Native.Nat.{ℕ, _*_}
 use Rattle.lists.proofs.TestLaws.{or-step}
-use Rattle.host.specs.Calls.{tickTests}
+use Rattle.host.specs.Tick.{tickTests}
 use Rattle.host.proofs.Facts.{sound-is, past-sound}
 use lib.Dec.{ltb}
 use Rattle.host.proofs.ticking.tick_checks.Statement.{statement}
