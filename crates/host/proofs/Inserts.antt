@@ -1,13 +1,13 @@
 -- One order more, put in from behind: what comes after it has moved up by one place, and the place before what moved is free. Assumes nothing.
 use mathlib.Core.Path.{_≡_, refl, sym, ap, _∙_}
-use mathlib.Core.Bool.{Bool, true, false, cond, true≢false}
+use mathlib.Core.Bool.{Bool, true, false, true≢false}
 use mathlib.Core.List.{List, [], _∷_, _++_, append-assoc}
 use Prim.Native.Nat.{ℕ, zero, suc, _+_, _-_, _≤_, _<_}
 use native.Mathlib.Numerals.{add-one}
 use native.Mathlib.Omega.{arith}
 use lib.ListN.{length, take, drop, getD, set, replicate, drop-of-length-le, length-drop, length-set}
-use lib.Seq.{drop-cons, getD-take, set-split, take-set-le, take-take, getD-set-same, drop-set-lt, length-take-le, take-suc}
-use Rattle.lists.specs.Lists.{all, insert, pad, rising, risingFrom}
+use lib.Seq.{getD-take, set-split, take-set-le, take-take, getD-set-same, drop-set-lt, length-take-le}
+use Rattle.lists.specs.Lists.{all, insert, pad, rising}
 use Rattle.lists.proofs.Bools.{false-unless, and-right}
 use Rattle.lists.proofs.Loops.{all-at, left-next, first-next}
 use Rattle.lists.proofs.Places.{blanks, length-insert}

@@ -97,15 +97,13 @@ pub(crate) fn walk(
     let mut rise = true;
     let mut own_started = true;
     let mut unused = true;
-    let mut first = true;
     let mut previous = history[0];
     let mut i = 0;
     while i < held {
         let e = history[i];
         fit = fit & is_fit(e, hosts);
-        rise = rise & (first | is_before(previous, e));
+        rise = rise & ((i == 0) | is_before(previous, e));
         own_started = own_started & is_started(e, own, started, newest);
-        first = false;
         previous = e;
         i += 1;
     }

@@ -1,8 +1,9 @@
 -- Of what is left, each turn tests the first, for each of soundness' tests at once; behind those held the unused places are left. Assumes nothing.
 use borrow.Author.Needs.{needs}
 use native.Mathlib.Omega.{arith}
-use mathlib.Core.Path.{_≡_, refl, ap, _∙_}
+use mathlib.Core.Path.{_≡_, refl, ap}
 use Prim.Native.Nat.{ℕ, _-_, _≤_}
+use lib.Dec.{eqb}
 use lib.ListN.{take, drop}
 use mathlib.Core.Bool.{_&&_}
 use Rattle.lists.specs.Lists.{all, rising}
@@ -13,20 +14,20 @@ use Rattle.host.proofs.history.walk.Statement.{statement}
 use Rattle.host.proofs.history.walk.Tie as tie
 
 abbrev Inv-loop : tie.InvT-loop
-Inv-loop held hosts own started newest history fit₀ rise₀ own-started₀ unused first₀ previous₀ i₀ fit rise own-started first previous i =
+Inv-loop held hosts own started newest history fit₀ rise₀ own-started₀ unused previous₀ i₀ fit rise own-started previous i =
     (i ≤ held)
     × ((fit && all (fits hosts) (drop i (take held history))) ≡ all (fits hosts) (take held history))
-    × ((rise && risesAfter before first previous (drop i (take held history))) ≡ rising before (take held history))
+    × ((rise && risesAfter before (eqb i 0) previous (drop i (take held history))) ≡ rising before (take held history))
     × ((own-started && all (ownStarted own started (newest .0)) (drop i (take held history))) ≡ all (ownStarted own started (newest .0)) (take held history))
 
 abbrev μ-loop : tie.MeasureT-loop
-μ-loop held hosts own started newest history fit₀ rise₀ own-started₀ unused first₀ previous₀ i₀ fit rise own-started first previous i = held - i
+μ-loop held hosts own started newest history fit₀ rise₀ own-started₀ unused previous₀ i₀ fit rise own-started previous i = held - i
 
 abbrev Inv-loop2 : tie.InvT-loop2
-Inv-loop2 held hosts own started history fit rise own-started unused₀ first i₀ unused i = (unused && all isNoHeld (drop i history)) ≡ all isNoHeld (drop held history)
+Inv-loop2 held hosts own started history fit rise own-started unused₀ i₀ unused i = (unused && all isNoHeld (drop i history)) ≡ all isNoHeld (drop held history)
 
 abbrev μ-loop2 : tie.MeasureT-loop2
-μ-loop2 held hosts own started history fit rise own-started unused₀ first i₀ unused i = 32 - i
+μ-loop2 held hosts own started history fit rise own-started unused₀ i₀ unused i = 32 - i
 
 array-copy-out-previous : tie.Need-array-copy-out-previous Inv-loop μ-loop Inv-loop2 μ-loop2
 array-copy-out-previous c = search needs
@@ -62,7 +63,7 @@ loop-again c =
     let next = first-next (a .t1) (a .held) (search needs) noHeld (s .i) (search needs) in (
       search needs,
       all-turn (fits (a .hosts)) (s .fit) (c .before .before .is-fit .result) next (s .inv .1) (c .before .before .is-fit .ensures),
-      rises-turn before (s .first) (s .rise) (c .before .is-before .result) (s .previous) next (s .inv .2) (c .before .is-before .ensures),
+      rises-turn before (s .i) (s .rise) (c .before .is-before .result) (s .previous) next (s .inv .2) (c .before .is-before .ensures),
       all-turn (ownStarted (a .own) (a .started) (a .newest .0)) (s .own-started) (c .is-started .result) next (s .inv .3) (c .is-started .ensures),
     )
 
@@ -100,7 +101,7 @@ returns c =
     let none = first-none (a .t1) (a .held) (search needs) (s .i) (search needs) in (
       all-end (fits (a .hosts)) (s .fit) none (s .inv .1),
       (
-        rises-end before (s .first) (s .rise) (s .previous) none (s .inv .2),
+        rises-end before (eqb (s .i) 0) (s .rise) (s .previous) none (s .inv .2),
         (
           all-end (ownStarted (a .own) (a .started) (a .newest .0)) (s .own-started) none (s .inv .3),
           all-end isNoHeld (t .unused) (left-none (a .t1) (t .i) (search needs)) (t .inv),
