@@ -11,7 +11,7 @@ use Rattle.clock.specs.declared.Reading.{Reading}
 use Rattle.network.specs.Network.{has}
 use Rattle.host.specs.declared.Held.{Held}
 use Rattle.host.specs.declared.Host.{Host}
-use Rattle.host.specs.Calls.{Said, saidBy, unless}
+use Rattle.host.specs.Answers.{Said, saidBy, unless}
 use Rattle.diffusion.specs.Hosts.{Carried, Copy, Answer, refused, accepted, after, Unrefused, Takes, Sends, Refuses}
 use Rattle.diffusion.specs.Ours.{carried, answered, backwards}
 

@@ -25,7 +25,10 @@ use Rattle.host.specs.declared.Held.{Held}
 use Rattle.host.specs.declared.Host.{Host}
 use Rattle.host.specs.State.{heldOf, sameName, sound}
 use Rattle.host.specs.Calls as calls
-use Rattle.host.specs.Calls.{cleared, ends, endsBut, otherLinks, inPlan, copyFits, early, late, due, sameHeld, otherHeld, receiveTests, receiveRefusal, relayLinks, relayHop}
+use Rattle.host.specs.OwnLinks.{ends, endsBut, otherLinks}
+use Rattle.host.specs.Make.{cleared}
+use Rattle.host.specs.Receive.{inPlan, copyFits, early, late, sameHeld, otherHeld, receiveTests, receiveRefusal, relayLinks, relayHop}
+use Rattle.host.specs.Tick.{due}
 use Rattle.host.proofs.Facts.{is-sound, ReceiveIs, receive-is}
 use Rattle.host.proofs.Names.{name-is, is-name}
 use Rattle.host.proofs.Keeps.{new-name, other-source}

@@ -26,7 +26,10 @@ use Rattle.host.specs.declared.Held.{Held}
 use Rattle.host.specs.declared.Host.{Host}
 use Rattle.host.specs.State.{noReading, startsOf, heldOf, lastStart, earlier, sound}
 use Rattle.host.specs.Calls as calls
-use Rattle.host.specs.Calls.{cleared, fresh, withStart, ends, ownLinks, startTests, startRefusal, tickRefusal}
+use Rattle.host.specs.OwnLinks.{ends, ownLinks}
+use Rattle.host.specs.Make.{cleared, fresh}
+use Rattle.host.specs.Start.{withStart, startTests, startRefusal}
+use Rattle.host.specs.Tick.{tickRefusal}
 use Rattle.host.proofs.Facts.{SoundIs, is-sound, StartIs, start-is}
 use Rattle.host.proofs.Keeps.{starts-below}
 use Rattle.host.proofs.Fresh.{cleared-link}

@@ -27,7 +27,10 @@ use Rattle.host.specs.declared.Held.{Held}
 use Rattle.host.specs.declared.Host.{Host}
 use Rattle.host.specs.State.{noReading, startsOf, heldOf, lastStart, before, earlier, Sized}
 use Rattle.host.specs.Calls as calls
-use Rattle.host.specs.Calls.{unless, cleared, fresh, withStart, due, dueOf, waitingOf, tickRefusal, tickHost, afterTick}
+use Rattle.host.specs.Answers.{unless}
+use Rattle.host.specs.Make.{cleared, fresh}
+use Rattle.host.specs.Start.{withStart}
+use Rattle.host.specs.Tick.{due, dueOf, waitingOf, tickRefusal, tickHost, afterTick}
 use Rattle.host.proofs.Facts.{SoundIs, sound-is, is-sound, TickIs, tick-is, tick-runs}
 use Rattle.host.proofs.Names.{before-is, before-trans}
 use Rattle.host.proofs.Keeps.{held-most}

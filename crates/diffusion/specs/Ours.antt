@@ -10,7 +10,11 @@ use Rattle.network.specs.declared.Plan.{Plan}
 use Rattle.host.specs.declared.Held.{Held}
 use Rattle.host.specs.declared.Host.{Host}
 use Rattle.host.specs.State.{startsOf, heldOf}
-use Rattle.host.specs.Calls.{Said, unless, fresh, startSays, startOf, startHost, receiveSays, receiveHost, dueOf, tickRefusal, tickHost}
+use Rattle.host.specs.Answers.{Said, unless}
+use Rattle.host.specs.Make.{fresh}
+use Rattle.host.specs.Start.{startSays, startOf, startHost}
+use Rattle.host.specs.Receive.{receiveSays, receiveHost}
+use Rattle.host.specs.Tick.{dueOf, tickRefusal, tickHost}
 use Rattle.diffusion.specs.Hosts as hosts
 use Rattle.diffusion.specs.Hosts.{Carried, Copy, Call, start, receive, Answer, refused, accepted}
 

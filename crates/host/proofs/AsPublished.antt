@@ -23,7 +23,12 @@ use Rattle.network.proofs.Bits.{has-none}
 use Rattle.host.specs.declared.Held.{Held}
 use Rattle.host.specs.declared.Host.{Host}
 use Rattle.host.specs.State.{heldOf}
-use Rattle.host.specs.Calls.{unless, Said, saidBy, setOf, ends, endsBut, ownLinks, otherLinks, relayLinks, relayHop, startOf, startTests, startRefusal, startHost, early, late, sameHeld, receiveTests, receiveRefusal, receiveSays, afterReceive, receiveHost, tickTests, tickRefusal, ticks}
+use Rattle.host.specs.Answers.{unless, Said, saidBy}
+use Rattle.host.specs.OwnLinks.{setOf, ends, endsBut, ownLinks, otherLinks}
+use Rattle.host.specs.Start.{startOf, startTests, startRefusal, startHost}
+use Rattle.host.specs.Receive.{relayLinks, relayHop, early, late, sameHeld, receiveTests, receiveRefusal, receiveSays, afterReceive, receiveHost}
+use Rattle.host.specs.Tick.{tickTests, tickRefusal}
+use Rattle.host.specs.Calls.{ticks}
 use Rattle.host.specs.Published.{Protocol, first, second, TooEarly, TooLate, Line, tooEarly, tooLate, lateMessage, dejaVu, relays, Relay, Sends, Leaves, startHop, relayedHop, Both, Runs, historyOf, Adjacent, isOwn, numberOf, AsStart, AsRelay, AsDelivery, AsDeliveries}
 use Rattle.host.proofs.Sets.{set-has}
 use Rattle.host.proofs.Names.{same-held, held-same}

@@ -19,7 +19,10 @@ use Rattle.network.specs.Network as net
 use Rattle.host.specs.declared.Held.{Held}
 use Rattle.host.specs.declared.Host.{Host}
 use Rattle.host.specs.State.{noReading, isNoLink, isNoReading, isNoHeld, startsOf, heldOf, lastStart, sameName, before, earlier, fits, ownStarted, notAbove, soundTests, sound}
-use Rattle.host.specs.Calls.{ends, startTests, startRefusal, early, late, sameHeld, otherHeld, receiveTests, receiveRefusal, dueOf, tickTests, tickRefusal}
+use Rattle.host.specs.OwnLinks.{ends}
+use Rattle.host.specs.Start.{startTests, startRefusal}
+use Rattle.host.specs.Receive.{early, late, sameHeld, otherHeld, receiveTests, receiveRefusal}
+use Rattle.host.specs.Tick.{dueOf, tickTests, tickRefusal}
 
 pub record SoundIs (h : Host) : Type 0 where
   pub ranges : net.inRange (h .plan) ≡ true

@@ -23,7 +23,8 @@ use Rattle.network.proofs.Answers.{fine}
 use Rattle.network.proofs.Limits.{d-low, d-high}
 use Rattle.host.specs.declared.Host.{Host}
 use Rattle.host.specs.State.{noLink, isNoLink, linksOf, sound, Sized}
-use Rattle.host.specs.Calls.{unless, makeTests, makeRefusal, cleared, fresh, noHost, makeHost}
+use Rattle.host.specs.Answers.{unless}
+use Rattle.host.specs.Make.{makeTests, makeRefusal, cleared, fresh, noHost, makeHost}
 use Rattle.host.proofs.Facts.{SoundIs, is-sound}
 
 planned-refusal : (p : Plan) → net.planned p .refusal ≡ net.planRefusal p

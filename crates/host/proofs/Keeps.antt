@@ -24,8 +24,10 @@ use Rattle.orders.specs.declared.Order.{Order}
 use Rattle.network.specs.Network as net
 use Rattle.host.specs.declared.Held.{Held}
 use Rattle.host.specs.declared.Host.{Host}
-use Rattle.host.specs.State.{noReading, noHeld, isNoReading, isNoHeld, startsOf, heldOf, lastStart, sameName, before, earlier, fits, ownStarted, notAbove, sound, Sized}
-use Rattle.host.specs.Calls.{at, withStart, startOf, afterStart, sameHeld, otherHeld, afterReceive, due, waitingOf, afterTick}
+use Rattle.host.specs.State.{noReading, noHeld, isNoReading, isNoHeld, startsOf, heldOf, lastStart, sameName, before, earlier, fits, ownStarted, notAbove, sound, Sized, at}
+use Rattle.host.specs.Start.{withStart, startOf, afterStart}
+use Rattle.host.specs.Receive.{sameHeld, otherHeld, afterReceive}
+use Rattle.host.specs.Tick.{due, waitingOf, afterTick}
 use Rattle.host.proofs.Names.{name-is, before-trans, before-total}
 use Rattle.host.proofs.Slides.{with-length}
 use Rattle.host.proofs.Facts.{SoundIs, StartIs, ReceiveIs, TickIs}

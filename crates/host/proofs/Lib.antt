@@ -3,10 +3,13 @@ pub mod Numbers
 pub mod Sets
 pub mod Blanks
 pub mod Slides
+pub mod Walks
+pub mod Inserts
 pub mod Facts
 pub mod Writes
 pub mod Fresh
 pub mod Names
+pub mod Fronts
 pub mod Keeps
 pub mod Outcomes
 pub mod Refusals

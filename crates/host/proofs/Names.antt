@@ -12,7 +12,7 @@ use Rattle.orders.specs.declared.Order.{Order}
 use Rattle.orders.proofs.Laws.{same-equal, equal-same}
 use Rattle.host.specs.declared.Held.{Held}
 use Rattle.host.specs.State.{sameName, before}
-use Rattle.host.specs.Calls.{sameHeld}
+use Rattle.host.specs.Receive.{sameHeld}
 
 -- ---- what the tests say
 

@@ -3,7 +3,7 @@ use mathlib.Core.Path.{_≡_, refl, sym, ap, _∙_}
 use mathlib.Core.Bool.{Bool, false, cond}
 use Prim.Native.Nat.{ℕ}
 use lib.Dec.{eqb}
-use Rattle.host.specs.Calls.{number, refusalOf, Said, says, saidBy, SaidTick, saysTick, saidByTick, unless}
+use Rattle.host.specs.Answers.{number, refusalOf, Said, says, saidBy, SaidTick, saysTick, saidByTick, unless}
 use Rattle.host.specs.declared.Refusal.{Refusal}
 use Rattle.host.specs.declared.Refusal.the-variants.{OutOfRange, BadLink, Parted, Unsound, BadReading, Behind, SameStart, WindowFull, HistoryFull, NotInPlan, Early, Late, Past, Known, OtherHeld, OwnNotHeld, ShortBuffer, BadValue}
 use Rattle.host.specs.declared.Verdict.{Verdict}

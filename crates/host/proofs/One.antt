@@ -17,7 +17,11 @@ use Rattle.host.specs.declared.Verdict.{Verdict}
 use Rattle.host.specs.declared.SendAnswer.{SendAnswer}
 use Rattle.host.specs.declared.TickAnswer.{TickAnswer}
 use Rattle.host.specs.State.{sound}
-use Rattle.host.specs.Calls.{number, refusalOf, Said, says, saysTick, makeRefusal, makeHost, startSays, startHost, receiveSays, receiveHost, tickSays, tickHost, tickList}
+use Rattle.host.specs.Answers.{number, refusalOf, Said, says, saysTick}
+use Rattle.host.specs.Make.{makeRefusal, makeHost}
+use Rattle.host.specs.Start.{startSays, startHost}
+use Rattle.host.specs.Receive.{receiveSays, receiveHost}
+use Rattle.host.specs.Tick.{tickSays, tickHost, tickList}
 use Rattle.host.proofs.Numbers.{verdict-one, says-one, tick-one}
 
 pub one-is-sound : (h : Host) (r s : Bool) → r ≡ sound h → s ≡ sound h → r ≡ s

@@ -20,8 +20,12 @@ use Rattle.clock.specs.declared.Reading.{Reading}
 use Rattle.orders.specs.declared.Order.{Order}
 use Rattle.host.specs.declared.Held.{Held}
 use Rattle.host.specs.declared.Host.{Host}
-use Rattle.host.specs.State.{noReading, noHeld, startsOf, heldOf, sameName, before, sound, Sized}
-use Rattle.host.specs.Calls.{unless, at, withStart, startOf, startRefusal, startHost, receiveRefusal, receiveHost, due, dueOf, waitingOf, tickRefusal, afterTick, tickHost, Call, start, receive, ticks, refusal, becomes, after}
+use Rattle.host.specs.State.{noReading, noHeld, startsOf, heldOf, sameName, before, sound, Sized, at}
+use Rattle.host.specs.Answers.{unless}
+use Rattle.host.specs.Start.{withStart, startOf, startRefusal, startHost}
+use Rattle.host.specs.Receive.{receiveRefusal, receiveHost}
+use Rattle.host.specs.Tick.{due, dueOf, waitingOf, tickRefusal, afterTick, tickHost}
+use Rattle.host.specs.Calls.{Call, start, receive, ticks, refusal, becomes, after}
 use Rattle.host.proofs.Names.{before-trans, before-other, name-swap}
 use Rattle.host.proofs.Facts.{SoundIs, sound-is, is-sound, start-is, receive-is, tick-is, tick-runs}
 use Rattle.host.proofs.Keeps.{start-keeps, receive-keeps, tick-keeps, starts-most, insert-few}

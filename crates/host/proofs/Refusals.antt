@@ -10,7 +10,10 @@ use Rattle.network.specs.Network.{planTests}
 use Rattle.network.specs.declared.Plan.{Plan}
 use Rattle.host.specs.declared.Held.{Held}
 use Rattle.host.specs.declared.Host.{Host}
-use Rattle.host.specs.Calls.{makeTests, makeRefusal, startTests, startRefusal, receiveTests, receiveRefusal, tickTests, tickRefusal}
+use Rattle.host.specs.Make.{makeTests, makeRefusal}
+use Rattle.host.specs.Start.{startTests, startRefusal}
+use Rattle.host.specs.Receive.{receiveTests, receiveRefusal}
+use Rattle.host.specs.Tick.{tickTests, tickRefusal}
 
 pub make-refusals : (p : Plan) (rules own : ℕ) → In (makeRefusal p rules own) (0 ∷ 1 ∷ 2 ∷ 3 ∷ 23 ∷ 15 ∷ [])
 unfolding makeTests planTests

@@ -11,7 +11,7 @@ use lib.Pow.{pow-mono}
 use Rattle.network.specs.Network.{m, has}
 use Rattle.network.specs.declared.Plan.{Plan}
 use Rattle.network.proofs.Bits.{has-none}
-use Rattle.host.specs.Calls.{setOf, ends, endsBut, ownLinks}
+use Rattle.host.specs.OwnLinks.{setOf, ends, endsBut, ownLinks}
 
 -- tests that agree below k make one set
 pub set-same : (k : ℕ) (f g : ℕ → Bool) → ((i : ℕ) → i < k → f i ≡ g i) → setOf k f ≡ setOf k g

@@ -8,7 +8,7 @@ use Rattle.lists.specs.Lists.{pad}
 use Rattle.lists.proofs.Places.{pad-more}
 use Rattle.clock.specs.declared.Reading.{Reading}
 use Rattle.host.specs.State.{noReading}
-use Rattle.host.specs.Calls.{withStart}
+use Rattle.host.specs.Start.{withStart}
 
 pub with-length : (l : List Reading) (u : Reading) (k : ℕ) → length l ≡ k → length (withStart l u) ≡ k - (k - 3) + 1
 with-length l u k n =

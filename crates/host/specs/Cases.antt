@@ -11,7 +11,8 @@ use Rattle.network.specs.declared.Link.{Link}
 use Rattle.network.specs.declared.Plan.{Plan}
 use Rattle.host.specs.declared.Held.{Held}
 use Rattle.host.specs.State.{soundTests}
-use Rattle.host.specs.Calls.{fresh, receiveTests, receiveRefusal}
+use Rattle.host.specs.Make.{fresh}
+use Rattle.host.specs.Receive.{receiveTests, receiveRefusal}
 
 abbrev pair : ℕ → ℕ → Link
 pair a b = record { a = a; b = b }

@@ -1,5 +1,11 @@
 pub mod State
 pub mod Entries
+pub mod Answers
+pub mod OwnLinks
+pub mod Make
+pub mod Start
+pub mod Tick
+pub mod Receive
 pub mod Calls
 pub mod Published
 pub mod Cases

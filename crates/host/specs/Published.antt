@@ -13,7 +13,10 @@ use Rattle.network.specs.declared.Plan.{Plan}
 use Rattle.host.specs.declared.Held.{Held}
 use Rattle.host.specs.declared.Host.{Host}
 use Rattle.host.specs.State.{heldOf}
-use Rattle.host.specs.Calls.{ends, startOf, startSays, startHost, receiveRefusal, receiveSays, receiveHost, dueOf, tickHost}
+use Rattle.host.specs.OwnLinks.{ends}
+use Rattle.host.specs.Start.{startOf, startSays, startHost}
+use Rattle.host.specs.Receive.{receiveRefusal, receiveSays, receiveHost}
+use Rattle.host.specs.Tick.{dueOf, tickHost}
 
 -- ---- the figures
 

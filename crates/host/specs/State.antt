@@ -6,7 +6,7 @@ use Prim.Native.Nat.{ℕ, _-_}
 use lib.Dec.{leb, ltb, eqb}
 use lib.ListN.{length, getD, take, drop}
 use Rattle.lists.specs.Tests.{allOf}
-use Rattle.lists.specs.Lists.{all, rising}
+use Rattle.lists.specs.Lists.{all, rising, pad}
 use Rattle.clock.specs.Clock.{largestStamp}
 use Rattle.clock.specs.declared.Reading.{Reading}
 use Rattle.orders.specs.Orders.{shareFits, sameOrder}
@@ -98,6 +98,26 @@ soundTests h =
 
 abbrev pub sound : Host → Bool
 sound h = allOf (soundTests h)
+
+-- the state with these parts in place of its own; the plan, the rule set, d, Δ and the own number stay
+abbrev pub with : Host → Reading → List Reading → ℕ → List Held → ℕ → Host
+with h last starts started history held =
+    record {
+      plan = h .plan;
+      rules = h .rules;
+      d = h .d;
+      bound = h .bound;
+      own = h .own;
+      last = last;
+      started = started;
+      starts = starts;
+      held = held;
+      history = history;
+    }
+
+-- the state at a reading, with these orders held: "An accepted call sets the last reading to U"
+abbrev pub at : Host → Reading → ℕ → List Reading → List Held → Host
+at h u started starts held = with h u starts started (pad 32 noHeld held) (length held)
 
 -- the arrays have the lengths that their types state
 pub record Sized (h : Host) : Type 0 where

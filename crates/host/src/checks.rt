@@ -2,7 +2,7 @@
 use crate::Refusal;
 use crate::Verdict;
 ghost use mathlib.Core.Path.{_≡_};
-ghost use Rattle.host.specs.Calls.{number, refusalOf};
+ghost use Rattle.host.specs.Answers.{number, refusalOf};
 ghost use Rattle.lists.specs.Tests.{orIf};
 
 // The verdict so far, or where that is clear the refusal of a test that passes.

@@ -5,7 +5,7 @@ ghost use mathlib.Core.Path.{_≡_};
 ghost use mathlib.Core.Bool.{cond};
 ghost use Prim.Native.Nat.{_≤_, _<_};
 ghost use Rattle.network.specs.Network.{m};
-ghost use Rattle.host.specs.Calls.{setOf, ends, endsBut};
+ghost use Rattle.host.specs.OwnLinks.{setOf, ends, endsBut};
 
 // All links of the host but one; all, where no link has that number.
 pub(crate) fn links_but(plan: Plan, own: u8, arrival: u8) -> u16

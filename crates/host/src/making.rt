@@ -19,7 +19,8 @@ ghost use lib.ListN.{take};
 ghost use Rattle.lists.specs.Lists.{pad};
 ghost use Rattle.network.specs.Network.{m, worst, bounds, planRefusal};
 ghost use Rattle.host.specs.State.{noLink};
-ghost use Rattle.host.specs.Calls.{number, refusalOf, unstarted, cleared, noHost, makeRefusal, makeHost};
+ghost use Rattle.host.specs.Answers.{number, refusalOf};
+ghost use Rattle.host.specs.Make.{unstarted, cleared, noHost, makeRefusal, makeHost};
 
 // A fresh host of the plan; or the zero state.
 pub fn make(plan: Plan, rules: u8, own: u8) -> Made

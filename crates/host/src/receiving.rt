@@ -6,6 +6,7 @@ use crate::Refusal;
 use crate::SendAnswer;
 use crate::Verdict;
 use crate::checks::or_if;
+use crate::history::is_due;
 use crate::history::look;
 use crate::history::with_held;
 use crate::links::is_end;
@@ -21,11 +22,13 @@ use orders::hop_fits;
 use orders::share_fits;
 ghost use mathlib.Core.Path.{_≡_};
 ghost use mathlib.Core.Bool.{true, cond};
-ghost use Prim.Native.Nat.{_≤_};
-ghost use lib.Dec.{eqb};
+ghost use Prim.Native.Nat.{_+_, _≤_};
+ghost use lib.Dec.{eqb, leb};
 ghost use Rattle.network.specs.Network.{m};
 ghost use Rattle.host.specs.State.{sound};
-ghost use Rattle.host.specs.Calls.{refusalOf, says, inPlan, copyFits, early, late, otherLinks, relayHop, receiveRefusal, receiveSays, receiveHost};
+ghost use Rattle.host.specs.Answers.{refusalOf, says};
+ghost use Rattle.host.specs.OwnLinks.{otherLinks};
+ghost use Rattle.host.specs.Receive.{inPlan, copyFits, early, late, relayHop, receiveRefusal, receiveSays, receiveHost};
 
 // The order is held, to be relayed on all own links but the one it came over; or the state comes back as it was.
 pub fn receive(host: Host, u: Reading, arrival: u8, hop: u8, copy: Held) -> Acted
@@ -70,7 +73,7 @@ fn receive_checks(host: Host, u: Reading, arrival: u8, hop: u8, copy: Held) -> V
     found = or_if(found, u.0 < host.last.0, Refusal::Behind);
     found = or_if(found, is_early(rules, plan, u, hop, stamp), Refusal::Early);
     found = or_if(found, is_late(rules, plan, u, hop, stamp), Refusal::Late);
-    found = or_if(found, reached(stamp, host.bound, u), Refusal::Past);
+    found = or_if(found, is_due(copy, host.bound, u), Refusal::Past);
     found = or_if(found, seen.same, Refusal::Known);
     found = or_if(found, seen.other, Refusal::OtherHeld);
     found = or_if(
@@ -101,7 +104,14 @@ fn is_fit_copy(rules: u8, hop: u8, copy: Held) -> bool
 fn is_early(rules: u8, plan: Plan, u: Reading, hop: u8, stamp: Reading) -> bool
     ensures { λ r. ⌜ r ≡ early rules plan (u .0) hop (stamp .0) ⌝ }
 {
-    (rules == 2) & reached(u, (hop as u64) * (plan.skew as u64), stamp)
+    (rules == 2) & is_ahead(u, (hop as u64) * (plan.skew as u64), stamp)
+}
+
+// Whether U + span ≤ T, by the sum: T less the span would go below 0 at a small stamp.
+fn is_ahead(u: Reading, span: u64, stamp: Reading) -> bool
+    ensures { λ r. ⌜ r ≡ leb (u .0 + span) (stamp .0) ⌝ }
+{
+    reached(u, span, stamp)
 }
 
 fn is_late(rules: u8, plan: Plan, u: Reading, hop: u8, stamp: Reading) -> bool

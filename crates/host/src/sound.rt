@@ -1,12 +1,9 @@
 // Which states are sound.
 use crate::Host;
-use crate::history::all_fit;
-use crate::history::all_rise;
-use crate::history::all_started;
+use crate::history::walk;
 use crate::starts::newest;
 use crate::starts::starts_passed;
 use crate::starts::starts_rise;
-use crate::unused::history_unused;
 use crate::unused::links_unused;
 use crate::unused::starts_unused;
 use network::bound;
@@ -31,14 +28,16 @@ pub fn is_sound(host: Host) -> bool
     let links = plan.links;
     let starts = host.starts;
     let history = host.history;
+    let last = newest(starts, started);
+    let walked = walk(history, held, plan.hosts, host.own, started, last);
     is_proper(plan)
         & (1 <= host.d)
         & (host.d <= 7)
         & (host.bound == bound(host.rules, plan, host.d))
         & (held <= 32)
-        & all_fit(history, held, plan.hosts)
-        & all_rise(history, held)
-        & all_started(history, held, host.own, started, newest(starts, started))
+        & walked.fit
+        & walked.rise
+        & walked.started
         & (started <= 4)
         & starts_rise(starts, started)
         & starts_passed(starts, started, host.last)
@@ -46,5 +45,5 @@ pub fn is_sound(host: Host) -> bool
         & (host.own < plan.hosts)
         & links_unused(links, plan.link_count as usize)
         & starts_unused(starts, started)
-        & history_unused(history, held)
+        & walked.unused
 }

@@ -23,7 +23,8 @@ ghost use mathlib.Core.Path.{_≡_};
 ghost use mathlib.Core.Bool.{true, cond};
 ghost use lib.Dec.{eqb};
 ghost use Rattle.host.specs.State.{sound};
-ghost use Rattle.host.specs.Calls.{refusalOf, says, startRefusal, startSays, startHost};
+ghost use Rattle.host.specs.Answers.{refusalOf, says};
+ghost use Rattle.host.specs.Start.{startRefusal, startSays, startHost};
 
 // The order is held under the reading and the host's number, to be sent on all own links; or the state comes back as it was.
 pub fn start(host: Host, u: Reading, order: Order) -> Acted

@@ -6,7 +6,7 @@ ghost use Prim.Native.Nat.{_+_, _-_, _≤_};
 ghost use lib.ListN.{take, drop, getD, length};
 ghost use Rattle.lists.specs.Lists.{all, rising, pad};
 ghost use Rattle.host.specs.State.{noReading, isNoReading, earlier, notAbove};
-ghost use Rattle.host.specs.Calls.{withStart};
+ghost use Rattle.host.specs.Start.{withStart};
 
 // The last start; any reading where there is none.
 pub(crate) fn newest(starts: [Reading; 4], started: usize) -> Reading

@@ -7,19 +7,22 @@ use crate::Ticked;
 use crate::Verdict;
 use crate::checks::or_if;
 use crate::entries::put_entry;
+use crate::history::is_due;
 use crate::sound::is_sound;
 use crate::states::at_reading;
+use crate::states::later;
 use crate::unused::no_held;
 use clock::Reading;
 use clock::is_reading;
-use clock::reached;
 ghost use mathlib.Core.Path.{_≡_};
 ghost use mathlib.Core.Bool.{true};
 ghost use Prim.Native.Nat.{_*_, _≤_};
+ghost use lib.Dec.{eqb};
 ghost use lib.ListN.{length, take};
 ghost use Rattle.lists.specs.Lists.{pad};
 ghost use Rattle.host.specs.State.{noHeld, sound};
-ghost use Rattle.host.specs.Calls.{refusalOf, saysTick, dueIn, waitingIn, written, tickRefusal, tickSays, tickHost, tickList};
+ghost use Rattle.host.specs.Answers.{refusalOf, saysTick};
+ghost use Rattle.host.specs.Tick.{dueOf, dueIn, waitingIn, written, tickRefusal, tickSays, tickHost, tickList};
 
 // Every order that is due leaves the history for the lent list; or the state comes back as it was, and the list keeps its bytes.
 pub fn tick(host: Host, u: Reading, out: &mut [u8]) -> Ticked
@@ -50,8 +53,7 @@ fn tick_checks(host: Host, u: Reading, room: usize) -> Verdict
     requires { ⌜ sound host ≡ true ⌝ }
     ensures { λ r. ⌜ refusalOf r ≡ tickRefusal host (u .0) room ⌝ }
 {
-    let history = host.history;
-    let n = count_due(history, host.held, host.bound, u);
+    let n = due_count(host, u);
     let mut found = or_if(Verdict::Clear, !is_reading(u), Refusal::BadReading);
     found = or_if(found, u.0 < host.last.0, Refusal::Behind);
     or_if(found, room < 16 * n, Refusal::ShortBuffer)
@@ -63,6 +65,12 @@ fn tick_accepted(host: Host, u: Reading, out: &mut [u8]) -> Ticked
     ensures { λ r. ⌜ saysTick (r .answer) ≡ tickSays host (u .0) (length (now (out .entry))) ⌝ }
     ensures { λ r. ⌜ now (out .exit) ≡ tickList host (u .0) (now (out .entry)) ⌝ }
 {
+    if is_idle(host, u) {
+        return Ticked {
+            host: later(host, u),
+            answer: TickAnswer::Delivered(0),
+        };
+    }
     let starts = host.starts;
     let history = host.history;
     let held = host.held;
@@ -81,6 +89,27 @@ pub(crate) struct Rest {
     pub history: [Held; 32],
 }
 
+// How many orders are due.
+fn due_count(host: Host, u: Reading) -> usize
+    requires { ⌜ sound host ≡ true ⌝ }
+    ensures { λ r. ⌜ (r ≡ length (dueOf host (u .0))) × (r ≤ host .held) ⌝ }
+{
+    if is_idle(host, u) {
+        return 0;
+    }
+    let history = host.history;
+    count_due(history, host.held, host.bound, u)
+}
+
+// Whether nothing is due: the first of those held is due before all others.
+fn is_idle(host: Host, u: Reading) -> bool
+    requires { ⌜ sound host ≡ true ⌝ }
+    ensures { λ r. ⌜ r ≡ eqb (length (dueOf host (u .0))) 0 ⌝ }
+{
+    let first = host.history[0];
+    (host.held == 0) | !is_due(first, host.bound, u)
+}
+
 // How many of those held are due.
 fn count_due(history: [Held; 32], held: usize, bound: u64, u: Reading) -> usize
     requires { ⌜ held ≤ 32 ⌝ }
@@ -91,7 +120,7 @@ fn count_due(history: [Held; 32], held: usize, bound: u64, u: Reading) -> usize
     while i < held {
         let e = history[i];
         i += 1;
-        if reached(e.stamp, bound, u) {
+        if is_due(e, bound, u) {
             n += 1;
         }
     }
@@ -113,7 +142,7 @@ fn deliver(out: &mut [u8], history: [Held; 32], held: usize, bound: u64, u: Read
     while i < held {
         let e = history[i];
         i += 1;
-        if reached(e.stamp, bound, u) {
+        if is_due(e, bound, u) {
             put_entry(out, 16 * delivered, e);
             delivered += 1;
         } else {

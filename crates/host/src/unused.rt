@@ -57,20 +57,7 @@ fn is_no_reading(s: Reading) -> bool
     s.0 == 0
 }
 
-// Whether the history's places from `used` on are zero.
-pub(crate) fn history_unused(history: [Held; 32], used: usize) -> bool
-    ensures { λ r. ⌜ r ≡ all isNoHeld (drop used history) ⌝ }
-{
-    let mut ok = true;
-    let mut i = used;
-    while i < 32 {
-        ok = ok & is_no_held(history[i]);
-        i += 1;
-    }
-    ok
-}
-
-fn is_no_held(e: Held) -> bool
+pub(crate) fn is_no_held(e: Held) -> bool
     ensures { λ r. ⌜ r ≡ isNoHeld e ⌝ }
 {
     let order = e.order;

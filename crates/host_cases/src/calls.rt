@@ -33,6 +33,12 @@ pub(crate) fn made(host: Host, row: Row) -> Host {
     }
 }
 
+// The zero state, as a refused making gives it.
+pub(crate) fn zero() -> Host {
+    let r = host::make(network(5), 0, 0);
+    r.host
+}
+
 fn order(row: Row) -> Order {
     order_of(row.kind, row.image, row.share)
 }

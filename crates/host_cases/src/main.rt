@@ -1,12 +1,11 @@
-// Calls at the edges of each refusal, one beside each edge, and calls drawn from a fixed seed; a line for the answer to each, with the number of
-// orders held, the number of starts kept and the last reading after it.
+// A line for the answer to each call, and the state after it: the calls of standard input, and calls drawn from a seed.
 mod calls;
 mod drawn;
+mod rows;
 mod show;
-mod table;
 
 fn main() {
-    table::rows();
+    rows::run();
     drawn::many(1, 2, 400);
     drawn::many(2, 1, 400);
 }

@@ -7,7 +7,7 @@ use mathlib.Core.Bool.{_&&_, _||_, not}
 use Rattle.lists.specs.Lists.{any}
 use Rattle.lists.proofs.Loops.{first-next, first-none, any-turn, any-end}
 use Rattle.host.specs.State.{noHeld, sameName}
-use Rattle.host.specs.Calls.{sameHeld, otherHeld}
+use Rattle.host.specs.Receive.{sameHeld, otherHeld}
 use Rattle.host.proofs.history.look.Statement.{statement}
 use Rattle.host.proofs.history.look.Tie as tie
 

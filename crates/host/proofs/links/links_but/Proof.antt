@@ -2,7 +2,7 @@
 use borrow.Author.Needs.{needs}
 use native.Mathlib.Omega.{arith}
 use Prim.Native.Nat.{ℕ, _+_, _-_, _≤_}
-use Rattle.host.specs.Calls.{setOf, endsBut}
+use Rattle.host.specs.OwnLinks.{setOf, endsBut}
 use Rattle.network.specs.Network.{m}
 use Rattle.host.proofs.Sets.{bit-most, set-most, set-turn, set-none, set-whole}
 use mathlib.Core.Path.{_≡_, ap, _∙_}

@@ -1,7 +1,8 @@
 -- Planning's refusals come first, with their numbers. Assumes nothing.
 use borrow.Author.Needs.{needs}
 use mathlib.Core.Path.{_≡_, sym, ap, _∙_}
-use Rattle.host.specs.Calls.{number, makeRefusal, noHost}
+use Rattle.host.specs.Answers.{number}
+use Rattle.host.specs.Make.{makeRefusal, noHost}
 use Rattle.host.specs.declared.Refusal.the-variants.{OutOfRange, BadLink, Parted}
 use Rattle.network.specs.Network.{says}
 use Rattle.network.specs.declared.Planned.the-variants as planned-as

@@ -3,7 +3,8 @@ use borrow.Author.Needs.{needs}
 use mathlib.Core.Path.{_≡_, sym, ap, _∙_}
 use mathlib.Core.Bool.{not}
 use borrow.Author.Tests.{le-leb, lt-leb}
-use Rattle.host.specs.Calls.{number, makeRefusal, noHost}
+use Rattle.host.specs.Answers.{number}
+use Rattle.host.specs.Make.{makeRefusal, noHost}
 use Rattle.host.specs.declared.Refusal.the-variants.{BadValue, NotInPlan}
 use Rattle.network.proofs.Ranges.{ranges}
 use Rattle.network.proofs.Answers.{fine}

@@ -1,7 +1,8 @@
 -- A refusal keeps the state; else the accepted part has both. Assumes nothing.
 use borrow.Author.Needs.{needs}
 use mathlib.Core.Path.{_≡_, sym, ap, _∙_}
-use Rattle.host.specs.Calls.{number, refusalOf, receiveRefusal}
+use Rattle.host.specs.Answers.{number, refusalOf}
+use Rattle.host.specs.Receive.{receiveRefusal}
 use Rattle.host.proofs.Numbers.{kept, says-refused}
 use Rattle.host.proofs.receiving.receive.Statement.{statement}
 use Rattle.host.proofs.receiving.receive.Tie as tie

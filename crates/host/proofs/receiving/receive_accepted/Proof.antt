@@ -10,7 +10,7 @@ with-held-requires : tie.Need-with-held-requires
 with-held-requires c κs =
     let a = c .before .before .before .args in
     let k = receive-is (a .host) (a .u .0) (a .arrival) (a .hop) (a .copy) (c .before .before .before .pre) in
-    (k .room, k .sound .history-unused)
+    (k .room, k .sound .rise, k .sound .history-unused)
 
 add-at-reading : tie.Need-add-at-reading
 add-at-reading c =

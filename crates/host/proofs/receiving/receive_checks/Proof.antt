@@ -4,7 +4,7 @@ use mathlib.Core.Path.{refl, ap}
 use mathlib.Core.Bool.{Bool, not, _&&_}
 use lib.ListN.{drop}
 use Rattle.lists.proofs.TestLaws.{or-step}
-use Rattle.host.specs.Calls.{receiveTests}
+use Rattle.host.specs.Receive.{receiveTests}
 use Rattle.host.proofs.Facts.{sound-is, past-sound}
 use Rattle.network.proofs.Ranges.{ranges}
 use lib.Dec.{eqb}
@@ -47,8 +47,8 @@ is-late-requires c κs = search needs
 or-if-requires-6 : tie.Need-or-if-requires-6
 or-if-requires-6 c κs = search needs
 
-reached-requires : tie.Need-reached-requires
-reached-requires c κs = search needs
+is-due-requires : tie.Need-is-due-requires
+is-due-requires c κs = search needs
 
 or-if-requires-7 : tie.Need-or-if-requires-7
 or-if-requires-7 c κs = search needs
@@ -75,7 +75,7 @@ returns c =
     let s4 = or-step _ _ _ (c .before .before .before .before .before .before .before .before .before .before .before .before .before .before .or-if4 .ensures) s3 refl in
     let s5 = or-step _ _ _ (c .before .before .before .before .before .before .before .before .before .before .before .before .or-if5 .ensures) s4 (c .before .before .before .before .before .before .before .before .before .before .before .before .before .is-early .ensures) in
     let s6 = or-step _ _ _ (c .before .before .before .before .before .before .before .before .before .before .or-if6 .ensures) s5 (c .before .before .before .before .before .before .before .before .before .before .before .is-late .ensures) in
-    let s7 = or-step _ _ _ (c .before .before .before .before .before .before .before .before .or-if7 .ensures) s6 (c .before .before .before .before .before .before .before .before .before .reached .ensures) in
+    let s7 = or-step _ _ _ (c .before .before .before .before .before .before .before .before .or-if7 .ensures) s6 (c .before .before .before .before .before .before .before .before .before .is-due .ensures) in
     let s8 = or-step _ _ _ (c .before .before .before .before .before .before .before .or-if8 .ensures) s7 (c .before .before .before .before .before .before .before .before .before .before .before .before .before .before .before .before .before .before .before .before .before .before .before .look .ensures .0) in
     let s9 = or-step _ _ _ (c .before .before .before .before .before .before .or-if9 .ensures) s8 (c .before .before .before .before .before .before .before .before .before .before .before .before .before .before .before .before .before .before .before .before .before .before .before .look .ensures .1 .0) in
     let s10 = or-step _ _ _ (c .before .before .or-if10 .ensures) s9 (ap (λ (t : Bool). eqb (a .copy .source) (a .host .own) && not t) (c .before .before .before .before .before .before .before .before .before .before .before .before .before .before .before .before .before .before .before .before .before .before .before .look .ensures .1 .1)) in
@@ -98,7 +98,7 @@ receive-checks-spec =
     or-if-requires-5
     is-late-requires
     or-if-requires-6
-    reached-requires
+    is-due-requires
     or-if-requires-7
     or-if-requires-8
     or-if-requires-9

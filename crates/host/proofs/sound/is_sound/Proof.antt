@@ -15,29 +15,23 @@ returns-2 : tie.Need-returns-2
 unfolding soundTests
 returns-2 c = sym (all-miss (soundTests (c .before .before .args .host)) 8 (lt-leb _ _ (c .if2 .taken)))
 
+newest-requires : tie.Need-newest-requires
+newest-requires c κs = search needs
+
+walk-requires : tie.Need-walk-requires
+walk-requires c κs = search needs
+
 is-proper-requires : tie.Need-is-proper-requires
 is-proper-requires c κs = search needs
 
 bound-requires : tie.Need-bound-requires
 bound-requires c κs = search needs
 
-all-fit-requires : tie.Need-all-fit-requires
-all-fit-requires c κs = search needs
-
-all-rise-requires : tie.Need-all-rise-requires
-all-rise-requires c κs = search needs
-
-newest-requires : tie.Need-newest-requires
-newest-requires c κs = search needs
-
-all-started-requires : tie.Need-all-started-requires
-all-started-requires c κs = search needs
-
 starts-rise-requires : tie.Need-starts-rise-requires
-starts-rise-requires c κs = c .before .before .before .before .before .before .before .before .before .before .before .before .before .if2 .left
+starts-rise-requires c κs = c .before .before .before .before .before .before .before .before .before .before .before .before .before .before .if2 .left
 
 starts-passed-requires : tie.Need-starts-passed-requires
-starts-passed-requires c κs = c .before .before .before .before .before .before .before .before .before .before .before .before .before .before .if2 .left
+starts-passed-requires c κs = c .before .before .before .before .before .before .before .before .before .before .before .before .before .before .before .if2 .left
 
 is-rules-requires : tie.Need-is-rules-requires
 is-rules-requires c κs = search needs
@@ -51,25 +45,23 @@ links-unused-requires c κs = search needs
 starts-unused-requires : tie.Need-starts-unused-requires
 starts-unused-requires c κs = search needs
 
-history-unused-requires : tie.Need-history-unused-requires
-history-unused-requires c κs = search needs
-
 returns-3 : tie.Need-returns-3
 unfolding soundTests
 returns-3 c =
+    let walked = c .before .before .before .before .before .before .before .before .before .before .before .before .before .before .before .before .before .walk .ensures in
     rw (
-      c .before .before .before .before .before .before .before .before .before .before .before .before .before .before .before .before .before .is-proper .ensures,
-      c .before .before .before .before .before .before .before .before .before .before .before .before .before .before .bound .ensures,
-      c .before .before .before .before .before .before .before .before .before .before .before .before .all-fit .ensures,
-      c .before .before .before .before .before .before .before .before .before .before .before .all-rise .ensures,
-      c .before .before .before .before .before .before .before .before .before .all-started .ensures,
-      c .before .before .before .before .before .before .before .before .before .before .newest .ensures,
+      c .before .before .before .before .before .before .before .before .before .before .before .before .before .before .before .before .is-proper .ensures,
+      c .before .before .before .before .before .before .before .before .before .before .before .before .before .bound .ensures,
+      walked .0,
+      walked .1 .0,
+      walked .1 .1 .0,
+      walked .1 .1 .1,
+      c .before .before .before .before .before .before .before .before .before .before .before .before .before .before .before .before .before .before .newest .ensures,
       c .before .before .before .before .before .before .before .before .starts-rise .ensures,
       c .before .before .before .before .before .before .before .starts-passed .ensures,
       c .before .before .before .before .before .before .is-rules .ensures,
       c .before .before .links-unused .ensures,
       c .before .starts-unused .ensures,
-      c .history-unused .ensures,
     )
     (all-chain _ _)
 
@@ -79,17 +71,14 @@ is-sound-spec =
     (tie.spec
     returns
     returns-2
+    newest-requires
+    walk-requires
     is-proper-requires
     bound-requires
-    all-fit-requires
-    all-rise-requires
-    newest-requires
-    all-started-requires
     starts-rise-requires
     starts-passed-requires
     is-rules-requires
     cast-links-unused
     links-unused-requires
     starts-unused-requires
-    history-unused-requires
     returns-3)

@@ -17,7 +17,7 @@ with-held-requires : tie.Need-with-held-requires
 with-held-requires c κs =
     let a = c .before .before .before .before .args in
     let k = start-is (a .host) (a .u .0) (a .order) (c .before .before .before .before .pre) in
-    (k .room, k .sound .history-unused)
+    (k .room, k .sound .rise, k .sound .history-unused)
 
 one-more-requires : tie.Need-one-more-requires
 one-more-requires c κs =

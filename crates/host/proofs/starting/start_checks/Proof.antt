@@ -1,16 +1,15 @@
 -- The chain of checks is the order of checks. Assumes nothing.
 use Rattle.clock.specs.declared.Reading.{Reading}
-use Rattle.host.specs.State.{noReading}
+use Rattle.host.specs.State.{noReading, noReading}
 use lib.ListN.{getD}
 use Rattle.clock.specs.declared.Reading.{Reading}
-use Rattle.host.specs.State.{noReading}
 use borrow.Author.Needs.{needs}
 use mathlib.Core.Path.{refl, ap, _∙_}
 use mathlib.Core.Bool.{Bool, not, _&&_}
 use lib.ListN.{drop}
 use Prim.Native.Nat.{ℕ, _+_}
 use Rattle.lists.proofs.TestLaws.{or-step}
-use Rattle.host.specs.Calls.{startTests}
+use Rattle.host.specs.Start.{startTests}
 use Rattle.host.proofs.Facts.{sound-is, past-sound}
 use lib.Dec.{eqb, ltb, leb}
 use Rattle.host.proofs.starting.start_checks.Statement.{statement}

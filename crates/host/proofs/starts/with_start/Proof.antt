@@ -8,7 +8,7 @@ use Rattle.lists.specs.Lists.{pad}
 use Rattle.lists.proofs.Places.{padded}
 use Rattle.clock.specs.declared.Reading.{Reading}
 use Rattle.host.specs.State.{noReading, isNoReading}
-use Rattle.host.specs.Calls.{withStart}
+use Rattle.host.specs.Start.{withStart}
 use Rattle.host.proofs.Blanks.{only-reading}
 use Rattle.host.proofs.Slides.{with-length, put-behind, in-place}
 use Rattle.host.proofs.starts.with_start.Statement.{statement}

@@ -6,7 +6,7 @@ use Prim.Native.Nat.{ℕ, _+_, _-_, _≤_}
 use lib.ListN.{length, take}
 use Rattle.lists.specs.Lists.{keep}
 use Rattle.host.specs.State.{noHeld}
-use Rattle.host.specs.Calls.{due}
+use Rattle.host.specs.Tick.{due}
 use Rattle.lists.proofs.Loops.{keep-no, count-yes}
 use Rattle.host.proofs.ticking.count_due.Statement.{statement}
 use Rattle.host.proofs.ticking.count_due.Tie as tie
@@ -29,8 +29,8 @@ array-copy-out-e c = search needs
 add-i : tie.Need-add-i Inv-loop μ-loop
 add-i c = search needs
 
-reached-requires : tie.Need-reached-requires Inv-loop μ-loop
-reached-requires c κs = search needs
+is-due-requires : tie.Need-is-due-requires Inv-loop μ-loop
+is-due-requires c κs = search needs
 
 add-n : tie.Need-add-n Inv-loop μ-loop
 add-n c = search needs
@@ -42,7 +42,7 @@ loop-again : tie.Need-loop-again Inv-loop μ-loop
 loop-again c =
     let a = c .before .before .before .before .before .args in
     let s = c .before .before .before .before .loop in
-    let more = count-yes (due (a .bound) (a .u .0)) noHeld (a .t1) (s .i) (search needs) (sym (c .before .reached .ensures) ∙ c .if1 .taken) in
+    let more = count-yes (due (a .bound) (a .u .0)) noHeld (a .t1) (s .i) (search needs) (sym (c .before .is-due .ensures) ∙ c .if1 .taken) in
     (search needs, search needs, ap (λ (k : ℕ). k + 1) (s .inv .2) ∙ sym more)
 
 loop-less-2 : tie.Need-loop-less-2 Inv-loop μ-loop
@@ -52,7 +52,7 @@ loop-again-2 : tie.Need-loop-again-2 Inv-loop μ-loop
 loop-again-2 c =
     let a = c .before .before .before .before .before .args in
     let s = c .before .before .before .before .loop in
-    let same = keep-no (due (a .bound) (a .u .0)) noHeld (a .t1) (s .i) (search needs) (sym (c .before .reached .ensures) ∙ c .if1 .left) in
+    let same = keep-no (due (a .bound) (a .u .0)) noHeld (a .t1) (s .i) (search needs) (sym (c .before .is-due .ensures) ∙ c .if1 .left) in
     (search needs, search needs, s .inv .2 ∙ sym (ap length same))
 
 returns : tie.Need-returns Inv-loop μ-loop
@@ -72,7 +72,7 @@ count-due-spec =
     mul-e
     array-copy-out-e
     add-i
-    reached-requires
+    is-due-requires
     add-n
     loop-less
     loop-again

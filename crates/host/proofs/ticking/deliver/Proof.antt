@@ -11,7 +11,7 @@ use Rattle.lists.specs.Lists.{keep, pad}
 use Rattle.lists.proofs.Places.{pad-more}
 use Rattle.host.specs.State.{noHeld}
 use Rattle.host.specs.Entries.{entriesOf}
-use Rattle.host.specs.Calls.{due}
+use Rattle.host.specs.Tick.{due}
 use Rattle.lists.proofs.Loops.{keep-yes, keep-no, count-yes, keep-grows}
 use Rattle.host.proofs.Writes.{entries-turn}
 use Rattle.host.proofs.ticking.deliver.Statement.{statement}
@@ -45,8 +45,8 @@ array-copy-out-e c = search needs
 add-i : tie.Need-add-i Inv-loop μ-loop
 add-i c = search needs
 
-reached-requires : tie.Need-reached-requires Inv-loop μ-loop
-reached-requires c κs = search needs
+is-due-requires : tie.Need-is-due-requires Inv-loop μ-loop
+is-due-requires c κs = search needs
 
 mul-put-entry : tie.Need-mul-put-entry Inv-loop μ-loop
 mul-put-entry c = search needs
@@ -58,7 +58,7 @@ put-entry-requires c κs =
     let l : List Held = a .t2 in
     let p = due (a .bound) (a .u .0) in
     let w : Held → Bool = λ e. not (p e) in
-    let test : p (getD l (s .i) noHeld) ≡ true = sym (c .before .before .reached .ensures) ∙ c .before .if1 .taken in
+    let test : p (getD l (s .i) noHeld) ≡ true = sym (c .before .before .is-due .ensures) ∙ c .before .if1 .taken in
     let more = count-yes p noHeld l (s .i) (omega arith) test in
     let most : length (keep p (take (s .i + 1) l)) ≤ length (keep p (take (s .i + 1 + (a .held - (s .i + 1))) l)) = keep-grows p l (s .i + 1) (a .held - (s .i + 1)) in
     let end : s .i + 1 + (a .held - (s .i + 1)) ≡ a .held = omega arith in
@@ -79,7 +79,7 @@ loop-again c =
     let p = due (a .bound) (a .u .0) in
     let w : Held → Bool = λ e. not (p e) in
     let e : Held = getD l (s .i) noHeld in
-    let test : p e ≡ true = sym (c .before .before .before .before .before .reached .ensures) ∙ c .before .before .before .before .if1 .taken in
+    let test : p e ≡ true = sym (c .before .before .before .before .before .is-due .ensures) ∙ c .before .before .before .before .if1 .taken in
     let inside : s .i < length l = omega arith in
     let yes = keep-yes p noHeld l (s .i) inside test in
     let no = keep-no w noHeld l (s .i) inside (ap not test) in (
@@ -114,7 +114,7 @@ loop-again-2 c =
     let p = due (a .bound) (a .u .0) in
     let w : Held → Bool = λ e. not (p e) in
     let e : Held = getD l (s .i) noHeld in
-    let test : p e ≡ false = sym (c .before .reached .ensures) ∙ c .if1 .left in
+    let test : p e ≡ false = sym (c .before .is-due .ensures) ∙ c .if1 .left in
     let inside : s .i < length l = omega arith in
     let yes = keep-yes w noHeld l (s .i) inside (ap not test) in
     let no = keep-no p noHeld l (s .i) inside test in (
@@ -166,7 +166,7 @@ deliver-spec =
     mul-e
     array-copy-out-e
     add-i
-    reached-requires
+    is-due-requires
     mul-put-entry
     put-entry-requires
     add-delivered

@@ -2,7 +2,8 @@
 use borrow.Author.Needs.{needs}
 use mathlib.Core.Path.{_≡_, sym, ap, _∙_}
 use lib.ListN.{length}
-use Rattle.host.specs.Calls.{number, refusalOf, tickRefusal}
+use Rattle.host.specs.Answers.{number, refusalOf}
+use Rattle.host.specs.Tick.{tickRefusal}
 use Rattle.host.proofs.Numbers.{kept, tick-refused}
 use Rattle.host.proofs.ticking.tick.Statement.{statement}
 use Rattle.host.proofs.ticking.tick.Tie as tie
