@@ -22,7 +22,7 @@ use Rattle.orders.proofs.Laws.{same-equal}
 use Rattle.orders.specs.declared.Order.{Order}
 use Rattle.network.specs.Network.{n, m, π, L, δ, ε, link, has, FaultSet, Survivor}
 use Rattle.network.specs.declared.Plan.{Plan}
-use Rattle.host.specs.Calls.{dueOf}
+use Rattle.host.specs.Tick.{dueOf}
 use Rattle.host.specs.declared.Host as state
 use Rattle.diffusion.specs.Hosts.{Copy, Call, start, receive, Answer, refused, accepted, Host, after, Sends, IsReceive}
 use Rattle.diffusion.specs.Ours.{hostsOf}

@@ -10,7 +10,11 @@ use Rattle.host.specs.State.{soundTests}
 use Rattle.board.specs.Board as board
 use Rattle.board.specs.Board.{imagesAfter, boardTests}
 use Rattle.board.specs.declared.Stand.the-variants.{Offered, Halted}
-use Rattle.host.specs.Calls.{setOf, startTests, receiveTests, tickTests, fresh}
+use Rattle.host.specs.OwnLinks.{setOf}
+use Rattle.host.specs.Make.{fresh}
+use Rattle.host.specs.Start.{startTests}
+use Rattle.host.specs.Receive.{receiveTests}
+use Rattle.host.specs.Tick.{tickTests}
 use Rattle.diffusion.specs.Run.{run, before, log, Premises, Claims}
 use Rattle.diffusion.specs.Ours.{called, ours}
 use Rattle.diffusion.specs.Boards.{boardBy, boardOf}

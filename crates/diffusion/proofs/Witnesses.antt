@@ -23,7 +23,11 @@ use Rattle.network.specs.Network.{n, inRange, same, badLink, badLinks, has, sur
 use Rattle.host.specs.State.{soundTests}
 use Rattle.board.specs.Board as board
 use Rattle.board.specs.Board.{imagesAfter, boardTests}
-use Rattle.host.specs.Calls.{setOf, startTests, receiveTests, tickTests, fresh}
+use Rattle.host.specs.OwnLinks.{setOf}
+use Rattle.host.specs.Make.{fresh}
+use Rattle.host.specs.Start.{startTests}
+use Rattle.host.specs.Receive.{receiveTests}
+use Rattle.host.specs.Tick.{tickTests}
 use Rattle.diffusion.specs.Hosts.{Carried}
 use Rattle.diffusion.specs.Run.{reading, run, Some, before, delivers, log, Starts-at, Refuses-at, Premises, Claims}
 use Rattle.diffusion.specs.Boards.{boardBy, offers, Full, Frees, None}

@@ -11,7 +11,8 @@ use Rattle.network.specs.declared.Plan.{Plan}
 use Rattle.host.specs.declared.Held.{Held}
 use Rattle.host.specs.declared.Host.{Host}
 use Rattle.host.specs.Entries.{entriesOf}
-use Rattle.host.specs.Calls.{SaidTick, unless, dueOf, written, tickRefusal, tickSays, tickList}
+use Rattle.host.specs.Answers.{SaidTick, unless}
+use Rattle.host.specs.Tick.{dueOf, written, tickRefusal, tickSays, tickList}
 use Rattle.host.proofs.Writes.{entries-length}
 use Rattle.diffusion.specs.Run.{Story, reading, before, delivers}
 use Rattle.diffusion.specs.Ours.{carried, heldAs, ours}

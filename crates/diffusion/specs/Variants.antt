@@ -9,7 +9,10 @@ use Rattle.orders.specs.declared.Order.the-variants.{Publish, Halt, Resume, Wit
 use Rattle.network.specs.Network.{bound, diameter}
 use Rattle.network.specs.declared.Plan.{Plan}
 use Rattle.host.specs.declared.Host.{Host}
-use Rattle.host.specs.Calls.{saidBy, unless, cleared, unstarted, due, receiveTests, relayLinks, relayHop, afterReceive}
+use Rattle.host.specs.Answers.{saidBy, unless}
+use Rattle.host.specs.Make.{cleared, unstarted}
+use Rattle.host.specs.Receive.{receiveTests, relayLinks, relayHop, afterReceive}
+use Rattle.host.specs.Tick.{due}
 use Rattle.diffusion.specs.Hosts as hosts
 use Rattle.diffusion.specs.Hosts.{Carried, Call, start, receive, Answer, refused, accepted}
 use Rattle.diffusion.specs.Ours.{shown, heldAs, answered, called}

@@ -10,7 +10,7 @@ use Rattle.orders.specs.declared.Order.the-variants.{Publish, Halt, Resume, Wit
 use Rattle.network.specs.Network.{Survivor}
 use Rattle.network.specs.declared.Plan.{Plan}
 use Rattle.host.specs.declared.Host.{Host}
-use Rattle.host.specs.Calls.{fresh}
+use Rattle.host.specs.Make.{fresh}
 use Rattle.board.specs.Board.{holding}
 use Rattle.board.specs.declared.Stand.the-variants.{Offered}
 use Rattle.board.specs.declared.Board.{Board}

@@ -5,7 +5,7 @@ use Prim.Native.Nat.{ℕ, _*_}
 use lib.ListN.{length, take, drop}
 use Rattle.network.specs.declared.Plan.{Plan}
 use Rattle.host.specs.Entries.{entriesOf}
-use Rattle.host.specs.Calls.{tickSays, tickList}
+use Rattle.host.specs.Tick.{tickSays, tickList}
 use Rattle.diffusion.specs.Run.{Story, reading, before, delivers}
 use Rattle.diffusion.specs.Ours.{heldAs, ours}
 

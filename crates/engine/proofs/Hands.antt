@@ -5,7 +5,9 @@ use lib.ListN.{set}
 use Rattle.clock.specs.declared.Reading.{Reading}
 use Rattle.clock.specs.declared.Tick.{Tick}
 use Rattle.orders.specs.declared.Order.{Order}
-use Rattle.host.specs.Calls.{Said, says, startSays, startHost, receiveSays, receiveHost}
+use Rattle.host.specs.Answers.{Said, says}
+use Rattle.host.specs.Start.{startSays, startHost}
+use Rattle.host.specs.Receive.{receiveSays, receiveHost}
 use Rattle.host.specs.declared.Held.{Held}
 use Rattle.host.specs.declared.Host.{Host}
 use Rattle.host.specs.declared.SendAnswer.{SendAnswer}

@@ -17,7 +17,8 @@ use Rattle.lists.proofs.Loops.{keep-both}
 use Rattle.lists.proofs.Rises.{first-before}
 use Rattle.clock.specs.declared.Reading.{Reading}
 use Rattle.host.specs.State.{Sized, heldOf, sameName, before, sound}
-use Rattle.host.specs.Calls.{Call, refusal, becomes, after, dueOf, waitingOf, tickRefusal}
+use Rattle.host.specs.Tick.{dueOf, waitingOf, tickRefusal}
+use Rattle.host.specs.Calls.{Call, refusal, becomes, after}
 use Rattle.host.specs.Calls as calls
 use Rattle.host.specs.declared.Held.{Held}
 use Rattle.host.specs.declared.Host.{Host}

@@ -19,7 +19,8 @@ use Rattle.lists.proofs.Loops.{keep-both}
 use Rattle.clock.specs.declared.Reading.{Reading}
 use Rattle.clock.specs.declared.Tick.{Tick}
 use Rattle.host.specs.State.{noHeld, heldOf, before}
-use Rattle.host.specs.Calls.{SaidTick, number, saysTick, saidByTick, due, dueOf, tickRefusal, tickSays, tickHost}
+use Rattle.host.specs.Answers.{SaidTick, number, saysTick, saidByTick}
+use Rattle.host.specs.Tick.{due, dueOf, tickRefusal, tickSays, tickHost}
 use Rattle.host.specs.declared.Held.{Held}
 use Rattle.host.specs.declared.Host.{Host}
 use Rattle.host.specs.declared.TickAnswer.the-variants.{Delivered, Refused}

@@ -6,7 +6,7 @@ use native.Mathlib.Omega.{arith}
 use lib.ListN.{replicate}
 use Rattle.lists.specs.Lists.{listed}
 use Rattle.network.specs.Network.{n}
-use Rattle.host.specs.Calls.{fresh, makeRefusal, makeHost}
+use Rattle.host.specs.Make.{fresh, makeRefusal, makeHost}
 use Rattle.host.specs.declared.Host.{Host}
 use Rattle.host.proofs.Fresh.{make-runs}
 use Rattle.host.proofs.Outcomes.{accepted}

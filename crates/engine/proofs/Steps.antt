@@ -15,7 +15,10 @@ use Rattle.clock.specs.declared.Reading.{Reading}
 use Rattle.network.specs.Network as net
 use Rattle.network.proofs.Ranges.{ranges}
 use Rattle.host.specs.State.{heldOf, sameName, before}
-use Rattle.host.specs.Calls.{Call, refusal, becomes, after, dueOf, waitingOf, startHost, receiveHost, tickHost}
+use Rattle.host.specs.Start.{startHost}
+use Rattle.host.specs.Receive.{receiveHost}
+use Rattle.host.specs.Tick.{dueOf, waitingOf, tickHost}
+use Rattle.host.specs.Calls.{Call, refusal, becomes, after}
 use Rattle.host.specs.Calls as calls
 use Rattle.host.specs.declared.Held.{Held}
 use Rattle.host.specs.declared.Host.{Host}

@@ -13,7 +13,9 @@ use Rattle.lists.proofs.Listing.{length-listed, getD-listed}
 use Rattle.clock.specs.declared.Reading.{Reading}
 use Rattle.clock.specs.declared.Tick.{Tick}
 use Rattle.network.specs.Network.{n, link}
-use Rattle.host.specs.Calls.{fresh, receiveHost, startHost}
+use Rattle.host.specs.Make.{fresh}
+use Rattle.host.specs.Start.{startHost}
+use Rattle.host.specs.Receive.{receiveHost}
 use Rattle.host.specs.declared.Host.{Host}
 use Rattle.host.proofs.Facts.{is-sound}
 use Rattle.host.proofs.Fresh.{MakeIs, fresh-sound, fresh-sized}

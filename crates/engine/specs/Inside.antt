@@ -5,7 +5,7 @@ use Prim.Native.Nat.{ℕ, _+_, _≤_, _<_}
 use lib.ListN.{length, getD}
 use Rattle.network.specs.Network.{n, m, link, planRefusal, worst, bounds}
 use Rattle.clock.specs.declared.Reading.{Reading}
-use Rattle.host.specs.Calls.{dueOf}
+use Rattle.host.specs.Tick.{dueOf}
 use Rattle.host.specs.declared.Host.{Host}
 use Rattle.schedule.specs.declared.Schedule.{Schedule}
 use Rattle.engine.specs.declared.Outcome.{Outcome}

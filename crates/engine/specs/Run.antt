@@ -9,7 +9,11 @@ use Rattle.clock.specs.declared.Reading.{Reading}
 use Rattle.clock.specs.declared.Tick.{Tick}
 use Rattle.orders.specs.declared.Order.{Order}
 use Rattle.network.specs.Network.{n, m, has}
-use Rattle.host.specs.Calls.{Said, unless, fresh, startSays, startHost, receiveSays, receiveHost, dueOf, tickRefusal, tickHost}
+use Rattle.host.specs.Answers.{Said, unless}
+use Rattle.host.specs.Make.{fresh}
+use Rattle.host.specs.Start.{startSays, startHost}
+use Rattle.host.specs.Receive.{receiveSays, receiveHost}
+use Rattle.host.specs.Tick.{dueOf, tickRefusal, tickHost}
 use Rattle.host.specs.declared.Held.{Held}
 use Rattle.host.specs.declared.Host.{Host}
 use Rattle.schedule.specs.declared.Schedule.{Schedule}

@@ -1,17 +1,13 @@
--- The three calls at a reading as one; the definitions of each call stand in the file of its name, and go by this path too. Assumes nothing.
+-- The three calls at a reading as one. Assumes nothing.
 use Prim.Native.Nat.{ℕ}
 use Rattle.clock.specs.declared.Reading.{Reading}
 use Rattle.orders.specs.declared.Order.{Order}
 use Rattle.host.specs.declared.Held.{Held}
 use Rattle.host.specs.declared.Host.{Host}
-pub use Rattle.host.specs.Answers.{Said, SaidTick}
-unfoldable pub use Rattle.host.specs.Answers.{number, refusalOf, says, saysTick, saidBy, saidByTick, unless}
-unfoldable pub use Rattle.host.specs.OwnLinks.{setOf, ends, ownLinks, endsBut, otherLinks}
-unfoldable pub use Rattle.host.specs.Make.{makeTests, makeRefusal, unstarted, cleared, fresh, noPlan, noHost, makeHost}
-unfoldable pub use Rattle.host.specs.Start.{startTests, startRefusal, startSays, withStart, startOf, afterStart, startHost}
-unfoldable pub use Rattle.host.specs.Receive.{inPlan, copyFits, early, late, sameHeld, otherHeld, receiveTests, receiveRefusal, relayLinks, relayHop, receiveSays, afterReceive, receiveHost}
-unfoldable pub use Rattle.host.specs.Tick.{due, dueIn, waitingIn, dueOf, waitingOf, written, tickTests, tickRefusal, tickSays, afterTick, tickHost, tickList}
-unfoldable pub use Rattle.host.specs.State.{with, at}
+use Rattle.host.specs.Answers.{unless}
+use Rattle.host.specs.Start.{startRefusal, afterStart}
+use Rattle.host.specs.Receive.{receiveRefusal, afterReceive}
+use Rattle.host.specs.Tick.{tickRefusal, afterTick}
 
 -- an order to start; a link, a hop and a copy to receive; the length of the list lent to a tick
 pub data Call : Type 0 where

@@ -1,7 +1,7 @@
 -- The number of the refusal that is there. Assumes nothing.
 use borrow.Author.Needs.{needs}
 use mathlib.Core.Path.{_≡_, refl, sym, ap, _∙_}
-use Rattle.host.specs.Calls.{says}
+use Rattle.host.specs.Answers.{says}
 use Rattle.host.specs.declared.SendAnswer.{SendAnswer}
 use Rattle.engine.proofs.starting.refusal_of.Statement.{statement}
 use Rattle.engine.proofs.starting.refusal_of.Tie as tie
