@@ -1,13 +1,16 @@
--- A loop that tests that a list rises and starts before its first element: there is none before it yet. Assumes nothing.
+-- Loops over the places of an array: that its first places rise, and that the others are unused. Assumes nothing.
 use mathlib.Core.Path.{_≡_, sym, ap, _∙_}
 use mathlib.Core.Bool.{Bool, true, false, _&&_, _||_, and-true}
 use mathlib.Core.List.{List, [], _∷_}
-use Prim.Native.Nat.{ℕ, _+_}
+use Prim.Native.Nat.{ℕ, _+_, _≤_, _<_}
 use native.Mathlib.Omega.{arith}
 use borrow.Author.Tests.{ne-eqb}
 use lib.Dec.{eqb}
-use Rattle.lists.specs.Lists.{rising, risingFrom}
-use Rattle.lists.proofs.Loops.{rising-turn, rising-end}
+use lib.ListN.{length, drop, getD}
+use Rattle.lists.specs.Lists.{all, rising, risingFrom}
+use Rattle.lists.proofs.Loops.{left-next, left-none, all-turn, all-end, rising-turn, rising-end}
+
+-- ---- a loop that tests that a list rises and starts before its first element: there is none before it yet
 
 module _ {A : Type 0} (r : A → A → Bool) where
   -- what is left rises: by itself before the first turn, then from the element before, w
@@ -28,3 +31,12 @@ module _ {A : Type 0} (r : A → A → Bool) where
   pub rises-end : {left : List A} {t : Bool} (first ok : Bool) (w : A) → left ≡ [] → (ok && risesAfter first w left) ≡ t → ok ≡ t
   rises-end true ok w s inv = sym (and-true ok) ∙ (rw s at inv)
   rises-end false ok w s inv = rising-end r ok w s inv
+
+-- ---- a loop that tests every place from some place on
+
+module _ {A : Type 0} (p : A → Bool) (z : A) (l : List A) {t : Bool} where
+  pub places-turn : (ok b : Bool) (i : ℕ) → i < length l → (ok && all p (drop i l)) ≡ t → b ≡ p (getD l i z) → ((ok && b) && all p (drop (i + 1) l)) ≡ t
+  places-turn ok b i h inv e = all-turn p ok b (left-next l z i h) inv e
+
+  pub places-end : (ok : Bool) (i : ℕ) → length l ≤ i → (ok && all p (drop i l)) ≡ t → ok ≡ t
+  places-end ok i h inv = all-end p ok (left-none l i h) inv

@@ -7,9 +7,9 @@ use lib.Dec.{eqb}
 use lib.ListN.{take, drop}
 use mathlib.Core.Bool.{_&&_}
 use Rattle.lists.specs.Lists.{all, rising}
-use Rattle.lists.proofs.Loops.{first-next, first-none, left-next, left-none, all-turn, all-end}
+use Rattle.lists.proofs.Loops.{first-next, first-none, all-turn, all-end}
 use Rattle.host.specs.State.{noHeld, isNoHeld, before, fits, ownStarted}
-use Rattle.host.proofs.Walks.{risesAfter, rises-turn, rises-end}
+use Rattle.host.proofs.Walks.{risesAfter, rises-turn, rises-end, places-turn, places-end}
 use Rattle.host.proofs.history.walk.Statement.{statement}
 use Rattle.host.proofs.history.walk.Tie as tie
 
@@ -91,7 +91,7 @@ loop2-again : tie.Need-loop2-again Inv-loop μ-loop Inv-loop2 μ-loop2
 loop2-again c =
     let a = c .before .before .before .before .before .before .before .args in
     let s = c .before .before .before .loop2 in
-    all-turn isNoHeld (s .unused) (c .is-no-held .result) (left-next (a .t1) noHeld (s .i) (search needs)) (s .inv) (c .is-no-held .ensures)
+    places-turn isNoHeld noHeld (a .t1) (s .unused) (c .is-no-held .result) (s .i) (search needs) (s .inv) (c .is-no-held .ensures)
 
 returns : tie.Need-returns Inv-loop μ-loop Inv-loop2 μ-loop2
 returns c =
@@ -104,7 +104,7 @@ returns c =
         rises-end before (eqb (s .i) 0) (s .rise) (s .previous) none (s .inv .2),
         (
           all-end (ownStarted (a .own) (a .started) (a .newest .0)) (s .own-started) none (s .inv .3),
-          all-end isNoHeld (t .unused) (left-none (a .t1) (t .i) (search needs)) (t .inv),
+          places-end isNoHeld noHeld (a .t1) (t .unused) (t .i) (search needs) (t .inv),
         ),
       ),
     )

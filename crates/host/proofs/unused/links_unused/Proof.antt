@@ -5,8 +5,8 @@ use Prim.Native.Nat.{_-_}
 use lib.ListN.{drop}
 use mathlib.Core.Bool.{_&&_}
 use Rattle.lists.specs.Lists.{all}
-use Rattle.lists.proofs.Loops.{left-next, left-none, all-turn, all-end}
 use Rattle.host.specs.State.{noLink, isNoLink}
+use Rattle.host.proofs.Walks.{places-turn, places-end}
 use Rattle.host.proofs.unused.links_unused.Statement.{statement}
 use Rattle.host.proofs.unused.links_unused.Tie as tie
 
@@ -38,13 +38,13 @@ loop-again : tie.Need-loop-again Inv-loop μ-loop
 loop-again c =
     let a = c .before .before .before .before .args in
     let s = c .before .before .before .loop in
-    all-turn isNoLink (s .ok) (c .is-no-link .result) (left-next (a .t1) noLink (s .i) (search needs)) (s .inv) (c .is-no-link .ensures)
+    places-turn isNoLink noLink (a .t1) (s .ok) (c .is-no-link .result) (s .i) (search needs) (s .inv) (c .is-no-link .ensures)
 
 returns : tie.Need-returns Inv-loop μ-loop
 returns c =
     let a = c .before .before .args in
     let s = c .before .loop in
-    all-end isNoLink (s .ok) (left-none (a .t1) (s .i) (search needs)) (s .inv)
+    places-end isNoLink noLink (a .t1) (s .ok) (s .i) (search needs) (s .inv)
 
 pub links-unused-spec : {M : Type 1} → statement M
 links-unused-spec =
