@@ -24,6 +24,7 @@ use Rattle.network.specs.declared.Plan.{Plan}
 use Rattle.host.specs.declared.Held.{Held}
 use Rattle.host.specs.declared.Host.{Host}
 use Rattle.host.specs.State.{heldOf, sameName, sound}
+use Rattle.host.specs.Start.{startRefusal}
 use Rattle.host.specs.Calls as calls
 use Rattle.host.specs.OwnLinks.{ends, endsBut, otherLinks}
 use Rattle.host.specs.Make.{cleared}
@@ -54,7 +55,7 @@ named h x e i q = let s = name-is (heldAs x) e q in (carried e, in-map carried (
 module _ (P : Plan) (p U : ℕ) (h : Host) (k : Ok P p U h) where
   pub sent-hop : (c : Call) (x : Copy) (i : ℕ) → Sends (called U h c) x i → x .hop ≡ 0
   sent-hop (start o) x i s =
-      ap (λ (y : Copy). y .hop) (send-is (calls.startRefusal h U o) _ _ _ _ x i s .1) ∙ ap (λ (r : ℕ). cond (eqb r 2) 1 0) (k .rules)
+      ap (λ (y : Copy). y .hop) (send-is (startRefusal h U o) _ _ _ _ x i s .1) ∙ ap (λ (r : ℕ). cond (eqb r 2) 1 0) (k .rules)
   sent-hop (receive j c) x i s =
       ap (λ (y : Copy). y .hop) (send-is (receiveRefusal h U j (c .hop) (heldAs (c .what))) _ _ _ _ x i s .1) ∙ ap (λ (r : ℕ). relayHop r (c .hop)) (k .rules) ∙ none (eqb (c .hop) 8)
     where

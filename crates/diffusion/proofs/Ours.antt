@@ -26,10 +26,11 @@ use Rattle.network.specs.declared.Plan.{Plan}
 use Rattle.host.specs.declared.Held.{Held}
 use Rattle.host.specs.declared.Host.{Host}
 use Rattle.host.specs.State.{noReading, startsOf, heldOf, lastStart, before, earlier, Sized}
+use Rattle.host.specs.Receive.{receiveRefusal}
 use Rattle.host.specs.Calls as calls
 use Rattle.host.specs.Answers.{unless}
 use Rattle.host.specs.Make.{cleared, fresh}
-use Rattle.host.specs.Start.{withStart}
+use Rattle.host.specs.Start.{withStart, startRefusal}
 use Rattle.host.specs.Tick.{due, dueOf, waitingOf, tickRefusal, tickHost, afterTick}
 use Rattle.host.proofs.Facts.{SoundIs, sound-is, is-sound, TickIs, tick-is, tick-runs}
 use Rattle.host.proofs.Names.{before-is, before-trans}
@@ -100,16 +101,16 @@ about U h (start o) = record { stamp = U; source = h .own; order = o }
 about U h (receive k c) = c .what
 
 pub takes-is : (U : ℕ) (h : Host) (c : Call) (x : Carried) → Takes (called U h c) x → (calls.refusal h U (callOf c) ≡ 0) × (x ≡ about U h c)
-takes-is U h (start o) x = take-is (calls.startRefusal h U o) _ _ _ _ x
-takes-is U h (receive k c) x = take-is (calls.receiveRefusal h U k (c .hop) (heldAs (c .what))) _ _ _ _ x
+takes-is U h (start o) x = take-is (startRefusal h U o) _ _ _ _ x
+takes-is U h (receive k c) x = take-is (receiveRefusal h U k (c .hop) (heldAs (c .what))) _ _ _ _ x
 
 pub is-takes : (U : ℕ) (h : Host) (c : Call) → calls.refusal h U (callOf c) ≡ 0 → Takes (called U h c) (about U h c)
-is-takes U h (start o) = is-taken (calls.startRefusal h U o) _ _ _ _
-is-takes U h (receive k c) = is-taken (calls.receiveRefusal h U k (c .hop) (heldAs (c .what))) _ _ _ _
+is-takes U h (start o) = is-taken (startRefusal h U o) _ _ _ _
+is-takes U h (receive k c) = is-taken (receiveRefusal h U k (c .hop) (heldAs (c .what))) _ _ _ _
 
 pub called-after : (U : ℕ) (h : Host) (c : Call) → after (called U h c) h ≡ calls.after h (shown U) (callOf c)
-called-after U h (start o) = after-is (calls.startRefusal h U o) _ _ _ h _
-called-after U h (receive k c) = after-is (calls.receiveRefusal h U k (c .hop) (heldAs (c .what))) _ _ _ h _
+called-after U h (start o) = after-is (startRefusal h U o) _ _ _ h _
+called-after U h (receive k c) = after-is (receiveRefusal h U k (c .hop) (heldAs (c .what))) _ _ _ h _
 
 more : (U : ℕ) (h : Host) (c : Call) → calls.refusal h U (callOf c) ≡ 0 → OneMore (heldAs (about U h c)) (heldOf h) (heldOf (calls.after h (shown U) (callOf c)))
 more U h (start o) = start-more h (shown U) o
