@@ -2,7 +2,7 @@
 use mathlib.Core.Path.{_≡_, ap}
 use Prim.Native.Nat.{ℕ, _≤_, _-_}
 use native.Mathlib.Omega.{arith}
-use lib.ListN.{length, getD}
+use lib.ListN.{getD}
 use Rattle.report.specs.Inside.{Wrote}
 use Rattle.lists.specs.Lists.{flat, listed}
 use Rattle.engine.specs.Parts.{noDelivery}

@@ -1,7 +1,6 @@
 -- The word and the number, and after them the end of the line. Assumes nothing.
 use native.Mathlib.Omega.{arith}
 use denote.Ref.{now}
-use mathlib.Core.List.{_++_}
 use lib.ListN.{length-append}
 use Rattle.report.proofs.Sizes.{length-digits}
 use Rattle.report.proofs.Writing.{wrote-then}

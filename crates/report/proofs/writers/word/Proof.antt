@@ -1,5 +1,4 @@
 -- As many bytes of the word are written as the loop has passed. Assumes nothing.
-use mathlib.Core.Path.{_≡_, refl, ap}
 use Prim.Native.Nat.{_≤_, _-_}
 use native.Mathlib.Omega.{arith}
 use denote.Ref.{now}
