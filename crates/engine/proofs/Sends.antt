@@ -7,7 +7,7 @@ use Prim.Native.Nat.{ℕ, suc, _+_, _*_, _%_, _≤_, _<_}
 use native.Mathlib.Omega.{arith}
 use borrow.Author.Tests.{eqb-true}
 use lib.Dec.{ltb, eqb}
-use lib.ListN.{length, getD, replicate}
+use lib.ListN.{length, getD, replicate, length-replicate}
 use Rattle.lists.specs.Lists.{insert}
 use Rattle.lists.specs.Members.{In}
 use Rattle.lists.proofs.Bools.{and-left, and-right}
@@ -108,14 +108,14 @@ module _ (s : Schedule) (q : ℕ) (a : Station) (k : Kept s q a) where
 
 module _ (s : Schedule) (z : Playable s) where
   -- a copy handed to a host of the plan
-  pub hand-posted : (t : Tick) (c q : ℕ) (w : World) → q < n (s .plan) → Good s (w .stations) → Posted s w → Posted s (hand s t c q w)
-  hand-posted t c q w low g p =
+  pub hand-posted : (t : Tick) (c q : ℕ) (w : World) → startOf c < 16 → q < n (s .plan) → Good s (w .stations) → Posted s w → Posted s (hand s t c q w)
+  hand-posted t c q w few low g p =
       let a : Station = station w q in
       let k = g .hosts q low in
       let u = clock s t q in
       let x = order s (startOf c) in
       let call : Call = calls.receive (linkOf c) 0 x in
-      acted s z t (startOf c) q (handed s t c q w .links) w (after (a .host) u call) (w .refusals) (let most = z .n-most in omega (arith, g .long))
+      acted s z t (startOf c) q (handed s t c q w .links) w (after (a .host) u call) (w .refusals) few (let most = z .n-most in omega (arith, g .long))
       (held-more s q a k u call x (held-is (a .host) u call))
       (λ l h e. let r = hand-link s q a k u (linkOf c) (startOf c) l h e in (r .1, held-new s q a k u call x (held-is (a .host) u call (r .0)))) p
 
@@ -142,13 +142,13 @@ module _ (s : Schedule) (z : Playable s) where
     started-is : starts.startOf (a .host) (clock s t q) o ≡ order s j
     started-is = let own = g .hosts q low .own in cc (sym at, own)
 
-    pub tell-posted : Posted s w → Posted s (tell s t j q o w)
-    tell-posted p =
+    pub tell-posted : j < 16 → Posted s w → Posted s (tell s t j q o w)
+    tell-posted few p =
         let k = g .hosts q low in
         let u = clock s t q in
         let x = starts.startOf (a .host) u o in
         let call : Call = calls.start o in
-        acted s z t j q (told s t q o w .links) w (after (a .host) u call) _ (let most = z .n-most in omega (arith, g .long))
+        acted s z t j q (told s t q o w .links) w (after (a .host) u call) _ few (let most = z .n-most in omega (arith, g .long))
         (held-more s q a k u call x (held-is (a .host) u call))
         (λ l h e. let r = tell-link s q a k u o l h e in (r .1, subst (λ (y : Held). In y (taken (record { host = after (a .host) u call; log = a .log }))) started-is (held-new s q a k u call x (held-is (a .host) u call (r .0))))) p
 
@@ -179,6 +179,7 @@ module _ (s : Schedule) (v : Within s) where
       (λ i l h q. (
         tick-one-good s z t i l h (q .0),
         record {
+          long = q .1 .long;
           took = λ c f. stands l i (ticked (clock s t i) (getD l i noStation)) (let most = z .n-most in omega (arith, q .0 .long))
               (λ x j. rw (tick-taken s i (getD l i noStation) (q .0 .hosts i h) (clock s t i)) j) (sender (s .plan) c) (order s (startOf c)) (q .1 .took c f);
         },
@@ -192,14 +193,14 @@ module _ (s : Schedule) (v : Within s) where
   arrive-both t c w few b = (arrive-good s z t c w few (b .0), go (arrives t c w))
     where
       go : (e : Bool) → Posted s (cond e (hand s t c (receiver (s .plan) c) w) w)
-      go true = hand-posted s z t c (receiver (s .plan) c) w (receiver-low c) (b .0) (b .1)
+      go true = hand-posted s z t c (receiver (s .plan) c) w (let most = z .few in omega arith) (receiver-low c) (b .0) (b .1)
       go false = b .1
 
   pub start-both : (t : Tick) (k : ℕ) (w : World) → k < s .«start_count» → Both w → Both (startOne s t k w)
   start-both t k w few b = (start-good s z t k w few (b .0), go (eqb (start s k .tick .0) (t .0)) refl)
     where
       go : (e : Bool) → eqb (start s k .tick .0) (t .0) ≡ e → Posted s (cond e (tell s t k (start s k .host) (start s k .order) w) w)
-      go true e = tell-posted s z t k w (eqb-true _ _ e) (v .start-host k few) (b .0) (b .1)
+      go true e = tell-posted s z t k w (eqb-true _ _ e) (v .start-host k few) (b .0) (let most = z .few in omega arith) (b .1)
       go false e = b .1
 
   pub ticked-both : (t : Tick) (w : World) → Both w → Both (tickAll s t w)
@@ -215,7 +216,7 @@ module _ (s : Schedule) (v : Within s) where
 
   open-posted : Posted s (opening s)
   unfolding opening
-  open-posted = record { took = λ c f. absurd (f (ap (λ (t : Tick). t .0) (getD-blank 384 c noTick))) }
+  open-posted = record { long = length-replicate 384 noTick; took = λ c f. absurd (f (ap (λ (t : Tick). t .0) (getD-blank 384 c noTick))) }
 
   pub world-both : (t : ℕ) → Both (world s t)
   unfolding play
