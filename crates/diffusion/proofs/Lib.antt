@@ -9,7 +9,7 @@ pub mod Sequences
 pub mod Agreement
 pub mod Theorem
 pub mod Plans
-mod Answered
+pub mod Answered
 pub mod Ours
 pub mod OurStarts
 pub mod OurCopies

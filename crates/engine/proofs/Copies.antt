@@ -8,8 +8,8 @@ use Rattle.clock.specs.declared.Tick.{Tick}
 use Rattle.orders.specs.declared.Order.{Order}
 use Rattle.network.specs.Network.{m, has}
 use Rattle.schedule.specs.declared.Schedule.{Schedule}
-use Rattle.engine.specs.declared.world.Post.{Post}
-use Rattle.engine.specs.declared.world.World.{World}
+use Rattle.engine.specs.declared.Post.{Post}
+use Rattle.engine.specs.declared.World.{World}
 use Rattle.engine.specs.Turns.{inTurn}
 use Rattle.engine.specs.Parts.{copyFrom, startOf, receiver, start}
 use Rattle.engine.specs.Run.{sent, sendOne, send, handed, hand, arrives, arriveOne, told, tell, startOne, tickAll, arrived, started, play, opening, world}

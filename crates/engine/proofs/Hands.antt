@@ -12,8 +12,8 @@ use Rattle.host.specs.declared.Held.{Held}
 use Rattle.host.specs.declared.Host.{Host}
 use Rattle.host.specs.declared.SendAnswer.{SendAnswer}
 use Rattle.schedule.specs.declared.Schedule.{Schedule}
-use Rattle.engine.specs.declared.world.Post.{Post}
-use Rattle.engine.specs.declared.world.World.{World}
+use Rattle.engine.specs.declared.Post.{Post}
+use Rattle.engine.specs.declared.World.{World}
 use Rattle.engine.specs.Parts.{clock, order, startOf, linkOf, receiver}
 use Rattle.engine.specs.Run.{station, become, send, hand, tell}
 

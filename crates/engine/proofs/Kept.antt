@@ -29,7 +29,7 @@ use Rattle.host.proofs.Outcomes.{after-call, accepted, sound-is-kept, sized-is-
 use Rattle.schedule.specs.declared.Schedule.{Schedule}
 use Rattle.engine.specs.declared.Delivery.{Delivery}
 use Rattle.engine.specs.declared.Log.{Log}
-use Rattle.engine.specs.declared.world.Station.{Station}
+use Rattle.engine.specs.declared.Station.{Station}
 use Rattle.engine.specs.Parts.{noDelivery, listOf, logOf, order}
 use Rattle.engine.specs.Run.{delivered, delivery, ticked}
 use Rattle.engine.specs.Inside.{Room}
@@ -51,6 +51,7 @@ pub record Kept (s : Schedule) (p : ℕ) (a : Station) : Type 0 where
   pub sized : Sized (a .host)
   pub own : a .host .own ≡ p
   pub plan : a .host .plan ≡ cleared (s .plan)
+  pub rules : a .host .rules ≡ 1
   pub set-out : a .log ≡ logOf (listOf (a .log))
   pub rise : rising before (taken a) ≡ true
   pub named : (x : Held) → In x (taken a) → Named s x

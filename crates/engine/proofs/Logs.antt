@@ -33,7 +33,7 @@ use Rattle.host.proofs.Numbers.{kept}
 use Rattle.schedule.specs.declared.Schedule.{Schedule}
 use Rattle.engine.specs.declared.Delivery.{Delivery}
 use Rattle.engine.specs.declared.Log.{Log}
-use Rattle.engine.specs.declared.world.Station.{Station}
+use Rattle.engine.specs.declared.Station.{Station}
 use Rattle.engine.specs.Turns.{inTurn}
 use Rattle.engine.specs.Parts.{noDelivery, listOf, logOf, noStation}
 use Rattle.engine.specs.Run.{delivered, delivery, ticked, tickOne}

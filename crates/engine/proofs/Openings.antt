@@ -11,8 +11,8 @@ use Rattle.host.specs.declared.Host.{Host}
 use Rattle.host.proofs.Fresh.{make-runs}
 use Rattle.host.proofs.Outcomes.{accepted}
 use Rattle.schedule.specs.declared.Schedule.{Schedule}
-use Rattle.engine.specs.declared.world.Station.{Station}
-use Rattle.engine.specs.declared.world.World.{World}
+use Rattle.engine.specs.declared.Station.{Station}
+use Rattle.engine.specs.declared.World.{World}
 use Rattle.engine.specs.Parts.{noTick}
 use Rattle.engine.specs.Run.{opening}
 use Rattle.engine.specs.Inside.{Playable, freshStation}

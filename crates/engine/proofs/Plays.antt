@@ -10,8 +10,8 @@ use Rattle.clock.specs.declared.Tick.{Tick}
 use Rattle.network.specs.Network.{n}
 use Rattle.schedule.specs.declared.Schedule.{Schedule}
 use Rattle.engine.specs.declared.Outcome.{Outcome}
-use Rattle.engine.specs.declared.world.Station.{Station}
-use Rattle.engine.specs.declared.world.World.{World}
+use Rattle.engine.specs.declared.Station.{Station}
+use Rattle.engine.specs.declared.World.{World}
 use Rattle.engine.specs.Turns.{inTurn}
 use Rattle.engine.specs.Parts.{start, receiver}
 use Rattle.engine.specs.Run.{tickOne, tickAll, hand, arrives, arriveOne, tell, startOne, play, opening, world, outcome, outcomeAt}

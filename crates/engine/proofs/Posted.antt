@@ -25,9 +25,9 @@ use Rattle.host.specs.declared.Host.{Host}
 use Rattle.host.proofs.Names.{is-name}
 use Rattle.schedule.specs.Schedule.{copyOf}
 use Rattle.schedule.specs.declared.Schedule.{Schedule}
-use Rattle.engine.specs.declared.world.Station.{Station}
-use Rattle.engine.specs.declared.world.Post.{Post}
-use Rattle.engine.specs.declared.world.World.{World}
+use Rattle.engine.specs.declared.Station.{Station}
+use Rattle.engine.specs.declared.Post.{Post}
+use Rattle.engine.specs.declared.World.{World}
 use Rattle.engine.specs.Turns.{inTurn}
 use Rattle.engine.specs.Parts.{noTick, noStation, later, order, copyFrom, startOf, linkOf, sender}
 use Rattle.engine.specs.Run.{delay, sent, sendOne, send, station, become}
@@ -50,11 +50,11 @@ link-of k l d h e = omega arith
 way-of : (k l d : ℕ) → l < 12 → d ≤ 1 → copyOf k l d % 2 ≡ d
 way-of k l d h e = omega arith
 
-above : (n : ℕ) → (n ≡ 0 → ⊥) → 0 < n
+pub above : (n : ℕ) → (n ≡ 0 → ⊥) → 0 < n
 above zero f = absurd (f refl)
 above (suc n) f = omega arith
 
-less : (l i : ℕ) → l < suc i → (l ≡ i → ⊥) → l < i
+pub less : (l i : ℕ) → l < suc i → (l ≡ i → ⊥) → l < i
 less l i h f = go (ltb l i) refl
   where
     go : (b : Bool) → ltb l i ≡ b → l < i
@@ -86,7 +86,7 @@ module _ (s : Schedule) (t : Tick) (k q links : ℕ) where
   abbrev placeOf : ℕ → ℕ
   placeOf l = copyFrom (s .plan) k q l
 
-  place-low : (l : ℕ) → k < 16 → l < 12 → placeOf l < 384
+  pub place-low : (l : ℕ) → k < 16 → l < 12 → placeOf l < 384
   place-low l h e = let d = way (eqb (link (s .plan) l .a) q) in omega arith
 
   module _ (post : Post) where

@@ -3,7 +3,7 @@ use mathlib.Core.Path.{_≡_, refl, sym, ap, subst, _∙_}
 use mathlib.Core.Logic.{_⊎_, inl, inr}
 use mathlib.Core.Bool.{Bool, true, false, cond, _&&_, not, false≢true}
 use mathlib.Core.List.{List, _++_}
-use Prim.Native.Nat.{ℕ, suc, _+_, _*_, _%_, _≤_, _<_}
+use Prim.Native.Nat.{ℕ, zero, suc, _+_, _*_, _%_, _≤_, _<_}
 use native.Mathlib.Omega.{arith}
 use borrow.Author.Tests.{eqb-true}
 use lib.Dec.{ltb, eqb}
@@ -35,21 +35,21 @@ use Rattle.host.proofs.Sets.{set-has}
 use Rattle.schedule.specs.declared.Schedule.{Schedule}
 use Rattle.schedule.proofs.Laws.{Within}
 use Rattle.engine.proofs.Runs.{playable, link-low, getD-blank}
-use Rattle.engine.specs.declared.world.Station.{Station}
-use Rattle.engine.specs.declared.world.World.{World}
+use Rattle.engine.specs.declared.Station.{Station}
+use Rattle.engine.specs.declared.World.{World}
 use Rattle.engine.specs.Turns.{inTurn}
-use Rattle.engine.specs.Parts.{noTick, noStation, clock, start, order, copyFrom, startOf, linkOf, receiver, sender}
-use Rattle.engine.specs.Run.{ticked, tickOne, tickAll, station, handed, hand, arrives, arriveOne, told, tell, startOne, arrived, started, play, opening, world}
+use Rattle.engine.specs.Parts.{noTick, noStation, later, clock, start, order, copyFrom, startOf, linkOf, receiver, sender}
+use Rattle.engine.specs.Run.{delay, ticked, tickOne, tickAll, station, handed, hand, arrives, arriveOne, told, tell, startOne, arrived, started, play, opening, world}
 use Rattle.engine.specs.Inside.{Playable}
 use Rattle.engine.proofs.Turns.{keeps}
 use Rattle.engine.proofs.Kept.{gone, taken, Kept}
 use Rattle.engine.proofs.Steps.{hand-untaken, tell-untaken, tick-taken}
 use Rattle.engine.proofs.Worlds.{Good, tick-one-good, tick-good, arrive-good, start-good, open-good}
-use Rattle.engine.proofs.Posted.{Posted, stands, acted, unsent}
+use Rattle.engine.proofs.Posted.{Posted, changed, stands, acted, unsent}
 
 -- ---- a link in what a call answers is the host's own, and the call was not refused
 
-said-has : (r links hop l : ℕ) → has (saidBy r links hop .links) l ≡ true → (r ≡ 0) × (has links l ≡ true)
+pub said-has : (r links hop l : ℕ) → has (saidBy r links hop .links) l ≡ true → (r ≡ 0) × (has links l ≡ true)
 said-has r links hop l e = go (eqb r 0) refl e
   where
     go : (b : Bool) → eqb r 0 ≡ b → has (cond {A = Said} b (record { refusal = 0; links = links; hop = hop }) (record { refusal = r; links = 0; hop = 0 }) .links) l ≡ true
@@ -59,7 +59,7 @@ said-has r links hop l e = go (eqb r 0) refl e
 
 module _ (s : Schedule) (q : ℕ) (a : Station) (k : Kept s q a) where
   -- the host's plan is the schedule's, and its number is q
-  own-end : (l : ℕ) → l < m (s .plan) → ends (a .host .plan) (a .host .own) l ≡ true → ends (s .plan) q l ≡ true
+  pub own-end : (l : ℕ) → l < m (s .plan) → ends (a .host .plan) (a .host .own) l ≡ true → ends (s .plan) q l ≡ true
   own-end l h e =
       let one : ends (a .host .plan) (a .host .own) l ≡ ends (cleared (s .plan)) q l = ap (λ (p : Plan). ends p (a .host .own) l) (k .plan) ∙ ap (λ (i : ℕ). ends (cleared (s .plan)) i l) (k .own) in
       let same = cleared-link (s .plan) l h in
@@ -88,7 +88,7 @@ module _ (s : Schedule) (q : ℕ) (a : Station) (k : Kept s q a) where
       abbrev copy : Call
       copy = calls.receive l 0 (order s j)
 
-      hand-link : (i : ℕ) → i < m (s .plan) → has (saidBy (refusal (a .host) (u .0) copy) (relayLinks (a .host) l 0) (relayHop (a .host .rules) 0) .links) i ≡ true
+      pub hand-link : (i : ℕ) → i < m (s .plan) → has (saidBy (refusal (a .host) (u .0) copy) (relayLinks (a .host) l 0) (relayHop (a .host .rules) 0) .links) i ≡ true
           → (refusal (a .host) (u .0) copy ≡ 0) × (ends (s .plan) q i ≡ true)
       hand-link i h e =
           let r = said-has (refusal (a .host) (u .0) copy) (relayLinks (a .host) l 0) (relayHop (a .host .rules) 0) i e in
@@ -98,7 +98,7 @@ module _ (s : Schedule) (q : ℕ) (a : Station) (k : Kept s q a) where
 
     -- an order told
     module _ (o : Order) where
-      tell-link : (i : ℕ) → i < m (s .plan) → has (starts.startSays (a .host) (u .0) o .links) i ≡ true → (refusal (a .host) (u .0) (calls.start o) ≡ 0) × (ends (s .plan) q i ≡ true)
+      pub tell-link : (i : ℕ) → i < m (s .plan) → has (starts.startSays (a .host) (u .0) o .links) i ≡ true → (refusal (a .host) (u .0) (calls.start o) ≡ 0) × (ends (s .plan) q i ≡ true)
       tell-link i h e =
           let r = said-has (refusal (a .host) (u .0) (calls.start o)) _ _ i e in
           let f : (ltb i (m (a .host .plan)) && ends (a .host .plan) (a .host .own) i) ≡ true = sym (set-has (m (a .host .plan)) (ends (a .host .plan) (a .host .own)) i) ∙ r .1 in
@@ -139,7 +139,7 @@ module _ (s : Schedule) (z : Playable s) where
     abbrev o : Order
     o = start s j .order
 
-    started-is : starts.startOf (a .host) (clock s t q) o ≡ order s j
+    pub started-is : starts.startOf (a .host) (clock s t q) o ≡ order s j
     started-is = let own = g .hosts q low .own in cc (sym at, own)
 
     pub tell-posted : j < 16 → Posted s w → Posted s (tell s t j q o w)
@@ -186,7 +186,7 @@ module _ (s : Schedule) (v : Within s) where
       )) in
       all .1
 
-  abbrev Both : World → Type 0
+  abbrev pub Both : World → Type 0
   Both w = Good s (w .stations) × Posted s w
 
   pub arrive-both : (t : Tick) (c : ℕ) (w : World) → c < 24 * s .«start_count» → Both w → Both (arriveOne s t c w)
@@ -236,3 +236,66 @@ module _ (s : Schedule) (v : Within s) where
   starts-free t k l few at low e =
       let b = started-both (record { 0 = t }) k (world s t) (omega arith) (world-both t) in
       tell-free s z (record { 0 = t }) k (started s (record { 0 = t }) k (world s t)) at (v .start-host k few) (b .0) (b .1) l low e
+
+  -- ---- a copy under way stays as it is
+
+  abbrev arrivalOf : ℕ → World → Tick
+  arrivalOf i w = getD (w .post .arrivals) i noTick
+
+  hand-stays : (t : Tick) (c : ℕ) (w : World) → c < 24 * s .«start_count» → Both w → (i : ℕ) → (arrivalOf i w .0 ≡ 0 → ⊥) → arrivalOf i (hand s t c (receiver (s .plan) c) w) ≡ arrivalOf i w
+  hand-stays t c w few b i f =
+      let q = receiver (s .plan) c in
+      go (changed s t (startOf c) q (handed s t c q w .links) (w .post) (let most = z .few in omega arith) (z .m-most) (b .1 .long) .1 i)
+    where
+      go : (arrivalOf i (hand s t c (receiver (s .plan) c) w) ≡ arrivalOf i w)
+          ⊎ ((l : ℕ) × (l < m (s .plan)) × (has (handed s t c (receiver (s .plan) c) w .links) l ≡ true) × (i ≡ copyFrom (s .plan) (startOf c) (receiver (s .plan) c) l)
+          × (arrivalOf i (hand s t c (receiver (s .plan) c) w) ≡ later t (delay s i)) × (0 < delay s i))
+          → arrivalOf i (hand s t c (receiver (s .plan) c) w) ≡ arrivalOf i w
+      go (inl e) = e
+      go (inr d) = absurd (f (ap (λ (j : ℕ). arrivalOf j w .0) (d .3) ∙ hand-free s z t c (receiver (s .plan) c) w (receiver-low c) (b .0) (b .1) (d .0) (d .1) (d .2)))
+
+  tell-stays : (t : Tick) (k : ℕ) (w : World) → k < s .«start_count» → start s k .tick .0 ≡ t .0 → Both w → (i : ℕ) → (arrivalOf i w .0 ≡ 0 → ⊥)
+      → arrivalOf i (tell s t k (start s k .host) (start s k .order) w) ≡ arrivalOf i w
+  tell-stays t k w few at b i f =
+      go (changed s t k (start s k .host) (told s t (start s k .host) (start s k .order) w .links) (w .post) (let most = z .few in omega arith) (z .m-most) (b .1 .long) .1 i)
+    where
+      go : (arrivalOf i (tell s t k (start s k .host) (start s k .order) w) ≡ arrivalOf i w)
+          ⊎ ((l : ℕ) × (l < m (s .plan)) × (has (told s t (start s k .host) (start s k .order) w .links) l ≡ true) × (i ≡ copyFrom (s .plan) k (start s k .host) l)
+          × (arrivalOf i (tell s t k (start s k .host) (start s k .order) w) ≡ later t (delay s i)) × (0 < delay s i))
+          → arrivalOf i (tell s t k (start s k .host) (start s k .order) w) ≡ arrivalOf i w
+      go (inl e) = e
+      go (inr d) = absurd (f (ap (λ (j : ℕ). arrivalOf j w .0) (d .3) ∙ tell-free s z t k w at (v .start-host k few) (b .0) (b .1) (d .0) (d .1) (d .2)))
+
+  -- from a world on, a place that is not free keeps its tick
+  abbrev Stays : World → World → Type 0
+  Stays w x = Both x × ((i : ℕ) → (arrivalOf i w .0 ≡ 0 → ⊥) → arrivalOf i x ≡ arrivalOf i w)
+
+  pub arrive-stays : (t : Tick) (c : ℕ) (w x : World) → c < 24 * s .«start_count» → Stays w x → Stays w (arriveOne s t c x)
+  arrive-stays t c w x few a = (arrive-both t c x few (a .0), λ i f. go (arrives t c x) i f)
+    where
+      go : (e : Bool) (i : ℕ) → (arrivalOf i w .0 ≡ 0 → ⊥) → arrivalOf i (cond e (hand s t c (receiver (s .plan) c) x) x) ≡ arrivalOf i w
+      go true i f = hand-stays t c x few (a .0) i (λ n. f (ap (λ (y : Tick). y .0) (sym (a .1 i f)) ∙ n)) ∙ a .1 i f
+      go false i f = a .1 i f
+
+  pub start-stays : (t : Tick) (k : ℕ) (w x : World) → k < s .«start_count» → Stays w x → Stays w (startOne s t k x)
+  start-stays t k w x few a = (start-both t k x few (a .0), λ i f. go (eqb (start s k .tick .0) (t .0)) refl i f)
+    where
+      go : (e : Bool) → eqb (start s k .tick .0) (t .0) ≡ e → (i : ℕ) → (arrivalOf i w .0 ≡ 0 → ⊥) → arrivalOf i (cond e (tell s t k (start s k .host) (start s k .order) x) x) ≡ arrivalOf i w
+      go true e i f = tell-stays t k x few (eqb-true _ _ e) (a .0) i (λ n. f (ap (λ (y : Tick). y .0) (sym (a .1 i f)) ∙ n)) ∙ a .1 i f
+      go false e i f = a .1 i f
+
+  pub world-stays : (t k i : ℕ) → (arrivalOf i (world s t) .0 ≡ 0 → ⊥) → arrivalOf i (world s (t + k)) ≡ arrivalOf i (world s t)
+  unfolding play inTurn
+  world-stays t k i f = all k .1 i f
+    where
+      one : (u : ℕ) (x : World) → Stays (world s t) x → Stays (world s t) (play s u x)
+      one u x a =
+          let T : Tick = record { 0 = u } in
+          let first : Stays (world s t) (tickAll s T x) = (ticked-both T x (a .0), a .1) in
+          let second : Stays (world s t) (arrived s T (24 * s .«start_count») x) =
+          keeps (arriveOne s T) (λ i y. Stays (world s t) y) (24 * s .«start_count») (tickAll s T x) first (λ i y h q. arrive-stays T i (world s t) y h q) in
+          keeps (startOne s T) (λ i y. Stays (world s t) y) (s .«start_count») (arrived s T (24 * s .«start_count») x) second (λ i y h q. start-stays T i (world s t) y h q)
+
+      all : (k : ℕ) → Stays (world s t) (world s (t + k))
+      all zero = let same : t + 0 ≡ t = omega arith in rw same (world-both t, λ i f. refl)
+      all (suc k) = let same : t + suc k ≡ suc (t + k) = omega arith in rw same (one (t + k) (world s (t + k)) (all k))

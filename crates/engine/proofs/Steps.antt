@@ -29,7 +29,7 @@ use Rattle.host.proofs.Outcomes.{accepted, sound-is-kept, sized-is-kept, last-r
 use Rattle.schedule.specs.declared.Schedule.{Schedule}
 use Rattle.engine.specs.declared.Delivery.{Delivery}
 use Rattle.engine.specs.declared.Log.{Log}
-use Rattle.engine.specs.declared.world.Station.{Station}
+use Rattle.engine.specs.declared.Station.{Station}
 use Rattle.engine.specs.Parts.{noDelivery, listOf, logOf, clock, start, order}
 use Rattle.engine.specs.Run.{delivered, delivery, ticked}
 use Rattle.engine.proofs.Logs.{due-then}
@@ -71,6 +71,7 @@ module _ (s : Schedule) (p : ℕ) (a : Station) (k : Kept s p a) (u : Reading) w
         sized = sized-is-kept h u c (k .sized);
         own = same .own ∙ k .own;
         plan = same .plan ∙ k .plan;
+        rules = same .rules ∙ k .rules;
         set-out = k .set-out;
         rise = ap (λ (l : List Held). rising before (gone a ++ l)) held ∙ more-rises s p a k x later new;
         named = λ y i. more-named s p a k x later new f y (rw held at i);
@@ -203,6 +204,7 @@ module _ (s : Schedule) (p : ℕ) (a : Station) (k : Kept s p a) (u : Reading) w
             sized = sized-is-kept h u c (k .sized);
             own = same .own ∙ k .own;
             plan = same .plan ∙ k .plan;
+            rules = same .rules ∙ k .rules;
             set-out = log-kept (listOf (a .log) ++ map (delivery u) (delivered h u));
             rise = ap (rising before) tick-taken ∙ k .rise;
             named = λ x i. k .named x (rw tick-taken at i);

@@ -21,8 +21,8 @@ use Rattle.host.proofs.Facts.{is-sound}
 use Rattle.host.proofs.Fresh.{MakeIs, fresh-sound, fresh-sized}
 use Rattle.schedule.specs.declared.Schedule.{Schedule}
 use Rattle.engine.specs.declared.Log.{Log}
-use Rattle.engine.specs.declared.world.Station.{Station}
-use Rattle.engine.specs.declared.world.World.{World}
+use Rattle.engine.specs.declared.Station.{Station}
+use Rattle.engine.specs.declared.World.{World}
 use Rattle.engine.specs.Turns.{inTurn}
 use Rattle.engine.specs.Parts.{logOf, noStation, clock, start, order, startOf, linkOf, receiver}
 use Rattle.engine.specs.Run.{ticked, tickOne, tickAll, station, hand, arrives, arriveOne, tell, startOne, arrived, started, play, opening, world}
@@ -133,6 +133,7 @@ module _ (s : Schedule) (z : Playable s) where
             sized = fresh-sized (s .plan) 1 p;
             own = refl;
             plan = refl;
+            rules = refl;
             set-out = refl;
             rise = refl;
             named = λ x i. absurd i;

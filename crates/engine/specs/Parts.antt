@@ -17,7 +17,7 @@ use Rattle.schedule.specs.declared.Start.{Start}
 use Rattle.schedule.specs.declared.Schedule.{Schedule}
 use Rattle.engine.specs.declared.Delivery.{Delivery}
 use Rattle.engine.specs.declared.Log.{Log}
-use Rattle.engine.specs.declared.world.Station.{Station}
+use Rattle.engine.specs.declared.Station.{Station}
 
 -- ---- what a host has delivered, as a list and in its places
 

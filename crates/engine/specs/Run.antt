@@ -19,9 +19,9 @@ use Rattle.host.specs.declared.Host.{Host}
 use Rattle.schedule.specs.declared.Schedule.{Schedule}
 use Rattle.engine.specs.declared.Delivery.{Delivery}
 use Rattle.engine.specs.declared.Outcome.{Outcome}
-use Rattle.engine.specs.declared.world.Station.{Station}
-use Rattle.engine.specs.declared.world.Post.{Post}
-use Rattle.engine.specs.declared.world.World.{World}
+use Rattle.engine.specs.declared.Station.{Station}
+use Rattle.engine.specs.declared.Post.{Post}
+use Rattle.engine.specs.declared.World.{World}
 use Rattle.engine.specs.Turns.{inTurn}
 use Rattle.engine.specs.Parts.{listOf, logOf, noStation, noTick, later, clock, start, order, copyFrom, startOf, linkOf, receiver}
 

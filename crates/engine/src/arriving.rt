@@ -1,10 +1,10 @@
 // Copies arrive, by start, link and direction.
+use crate::Post;
+use crate::Station;
+use crate::World;
 use crate::clocks::clock_of;
 use crate::clocks::order_of;
 use crate::sending::send_all;
-use crate::world::Post;
-use crate::world::Station;
-use crate::world::World;
 use clock::Tick;
 use host::SendAnswer;
 use schedule::Schedule;

@@ -6,10 +6,11 @@ mod playing;
 mod sending;
 mod starting;
 mod ticking;
-mod world;
 
 use clock::Reading;
+use clock::Tick;
 use host::Held;
+use host::Host;
 use schedule::Answer;
 ghost use mathlib.Core.Path.{_≡_};
 ghost use lib.Dec.{eqb};
@@ -27,6 +28,25 @@ pub struct Delivery {
 pub struct Log {
     pub count: usize,
     pub entries: [Delivery; 16],
+}
+
+// A host's state, and what it has delivered.
+pub struct Station {
+    pub host: Host,
+    pub log: Log,
+}
+
+// The copies: the tick at which each arrives, by start, link and direction, with 0 for none under way; and how many were sent.
+pub struct Post {
+    pub arrivals: [Tick; 384],
+    pub copies: usize,
+}
+
+// All that changes in a run.
+pub struct World {
+    pub stations: [Station; 8],
+    pub post: Post,
+    pub refusals: [u8; 16],
 }
 
 // What a run leaves: of the 16 starts the first `starts` are there, of the 8 hosts the first `hosts`.

@@ -2,9 +2,9 @@
 use crate::Delivery;
 use crate::Log;
 use crate::Outcome;
-use crate::world::Post;
-use crate::world::Station;
-use crate::world::World;
+use crate::Post;
+use crate::Station;
+use crate::World;
 use clock::Reading;
 use clock::Tick;
 use host::Held;

@@ -1,6 +1,8 @@
 // At each tick all hosts tick, then copies arrive, then orders are started.
 use crate::Log;
 use crate::Outcome;
+use crate::Station;
+use crate::World;
 use crate::arriving::any_arrives;
 use crate::arriving::arrive_all;
 use crate::opening::no_log;
@@ -8,8 +10,6 @@ use crate::opening::open;
 use crate::starting::any_starts;
 use crate::starting::start_all;
 use crate::ticking::tick_all;
-use crate::world::Station;
-use crate::world::World;
 use clock::Tick;
 use schedule::Schedule;
 ghost use mathlib.Core.Path.{_≡_};

@@ -1,5 +1,5 @@
 // Copies sent: each with the tick at which it arrives, unless it is lost.
-use crate::world::Post;
+use crate::Post;
 use clock::Tick;
 use network::Link;
 use network::Plan;

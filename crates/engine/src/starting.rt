@@ -1,9 +1,9 @@
 // Orders are started.
+use crate::Station;
+use crate::World;
 use crate::arriving::links_of;
 use crate::clocks::clock_of;
 use crate::sending::send_all;
-use crate::world::Station;
-use crate::world::World;
 use clock::Tick;
 use host::SendAnswer;
 use host::number_of;

@@ -1,8 +1,8 @@
 // All hosts tick, and what they deliver is kept.
 use crate::Delivery;
 use crate::Log;
+use crate::Station;
 use crate::clocks::clock_of;
-use crate::world::Station;
 use clock::Reading;
 use clock::Tick;
 use host::Held;

@@ -11,6 +11,7 @@ use lib.ListN.{length, getD, set, length-set}
 use lib.Seq.{getD-set-same, getD-set-other}
 use Rattle.lists.proofs.Listing.{getD-listed}
 use Rattle.clock.specs.declared.Tick.{Tick}
+use Rattle.orders.specs.declared.Order.{Order}
 use Rattle.network.specs.Network.{n, m, has}
 use Rattle.host.specs.Make.{fresh}
 use Rattle.host.specs.Tick.{tickHost}
@@ -22,17 +23,16 @@ use Rattle.diffusion.specs.Hosts.{Call, after}
 use Rattle.diffusion.specs.Run.{Story, reading, run, before, callsAt, roomAt}
 use Rattle.diffusion.specs.Ours.{ours, called}
 use Rattle.diffusion.proofs.Ours.{called-after}
-use Rattle.engine.specs.declared.world.Station.{Station}
-use Rattle.engine.specs.declared.world.World.{World}
+use Rattle.engine.specs.declared.Station.{Station}
+use Rattle.engine.specs.declared.World.{World}
 use Rattle.engine.specs.Turns.{inTurn}
 use Rattle.engine.specs.Parts.{noTick, noStation, later, clock, start, order, startOf, linkOf, receiver, copyFrom}
 use Rattle.engine.specs.Run.{delay, ticked, tickOne, tickAll, station, handed, hand, arrives, arriveOne, tell, startOne, arrived, started, play, opening, world}
-use Rattle.engine.specs.Inside.{Playable}
 use Rattle.engine.proofs.Turns.{keeps}
 use Rattle.engine.proofs.Logs.{untouched}
 use Rattle.engine.proofs.Runs.{playable}
 use Rattle.engine.proofs.Worlds.{Good}
-use Rattle.engine.proofs.Posted.{Posted, changed}
+use Rattle.engine.proofs.Posted.{less, changed}
 use Rattle.engine.proofs.Sends.{Both, receiver-low, hand-free, arrive-both, start-both, ticked-both, arrived-both, world-both}
 use Rattle.played.specs.Story.{copyCall, copiesTo, startsTo, callsOf, story}
 
@@ -81,14 +81,7 @@ tick-at s t (suc i) p l h k = go (eqb p i) refl (tick-at s t i p l)
         ∙ ap (λ (j : ℕ). ticked (clock s t j) (getD l j noStation)) (sym same)
     go false e ih =
         let other : p ≡ i → ⊥ = eqb-false p i e in
-        getD-set-other L i p a noStation other ∙ ih (less other) (omega arith)
-      where
-        less : (p ≡ i → ⊥) → p < i
-        less f = down (ltb p i) refl
-          where
-            down : (b : Bool) → ltb p i ≡ b → p < i
-            down true e = ltb-true p i e
-            down false e = let past : i ≤ p = ltb-false p i e in let same : p ≡ i = omega arith in absurd (f same)
+        getD-set-other L i p a noStation other ∙ ih (less p i h other) (omega arith)
 
 -- ---- what is sent at a tick does not arrive at it, and takes no place of what does
 
@@ -126,6 +119,135 @@ module _ (s : Schedule) (v : Within s) where
   abbrev R : Story
   R = story s
 
-  -- the states of the plan's hosts, once the calls so far are made
-  abbrev Like : ℕ → Tick → World → (ℕ → List Call) → World → Type 0
-  Like U t w cs x = Unit {0}
+  -- ---- after the ticks, the copies and the starts of a tick
+
+  module _ (t : ℕ) (w : World) (b : Both s v w) where
+    abbrev T : Tick
+    T = record { 0 = t }
+
+    abbrev pub tickedHost : ℕ → Host
+    tickedHost p = tickHost (station w p .host) (clock s T p) 512
+
+    ticked-host : (p : ℕ) → p < n (s .plan) → station (tickAll s T w) p .host ≡ tickedHost p
+    ticked-host p h = ap (λ (a : Station). a .host) (tick-at s T (n (s .plan)) p (w .stations) h (let most = playable s v .n-most in omega (arith, b .0 .long)))
+
+    abbrev pub AfterCopies : ℕ → World → Type 0
+    AfterCopies c x =
+        Both s v x
+        × ((i : ℕ) → arrives T i x ≡ arrives T i w)
+        × ((p : ℕ) → p < n (s .plan) → station x p .host ≡ run H (reading R p t) (tickedHost p) (copiesTo s p T w c))
+
+    pub copy-step : (c : ℕ) (x : World) → c < 24 * s .«start_count» → AfterCopies c x → AfterCopies (suc c) (arriveOne s T c x)
+    unfolding copiesTo
+    copy-step c x few a = (arrive-both s v T c x few (a .0), steady (arrives T c x), λ p h. host p h (arrives T c w) refl)
+      where
+        q : ℕ
+        q = receiver (s .plan) c
+
+        steady : (e : Bool) → (i : ℕ) → arrives T i (cond e (hand s T c q x) x) ≡ arrives T i w
+        steady true i = hand-steady T c x few (a .0) i ∙ a .1 i
+        steady false i = a .1 i
+
+        more : (p : ℕ) (l : List Call) → run H (reading R p t) (tickedHost p) (copiesTo s p T w c ++ l) ≡ run H (reading R p t) (run H (reading R p t) (tickedHost p) (copiesTo s p T w c)) l
+        more p l = run-append H (reading R p t) (tickedHost p) (copiesTo s p T w c) l
+
+        here : (p : ℕ) → p < n (s .plan) → (d : Bool) → eqb q p ≡ d
+            → station (hand s T c q x) p .host ≡ run H (reading R p t) (tickedHost p) (copiesTo s p T w c ++ cond d (copyCall s c ∷ []) [])
+        here p h true e =
+            let same : q ≡ p = eqb-true q p e in
+            let U = reading R p t in
+            let r = run H U (tickedHost p) (copiesTo s p T w c) in
+            let low : q < length (x .stations) = let most = playable s v .n-most in omega (arith, a .0 .0 .long, receiver-low s v c) in
+            let one : station (hand s T c q x) q .host ≡ after (called (reading R q t) (station x q .host) (copyCall s c)) (station x q .host) =
+            ap (λ (z : Station). z .host) (getD-set-same (x .stations) q _ noStation low) ∙ sym (called-after (reading R q t) (station x q .host) (copyCall s c)) in
+            let two : after (called U (station x p .host) (copyCall s c)) (station x p .host) ≡ after (called U r (copyCall s c)) r = ap (λ (g : Host). after (called U g (copyCall s c)) g) (a .2 p h) in
+            ap (λ (j : ℕ). station (hand s T c q x) j .host) (sym same) ∙ one ∙ ap (λ (j : ℕ). after (called (reading R j t) (station x j .host) (copyCall s c)) (station x j .host)) same ∙ two
+            ∙ sym (more p (copyCall s c ∷ []) ∙ run-one H U r (copyCall s c))
+        here p h false e =
+            ap (λ (z : Station). z .host) (getD-set-other (x .stations) q p _ noStation (λ f. eqb-false q p e (sym f))) ∙ a .2 p h
+            ∙ sym (more p [] ∙ run-none H (reading R p t) (run H (reading R p t) (tickedHost p) (copiesTo s p T w c)))
+
+        host : (p : ℕ) → p < n (s .plan) → (e : Bool) → arrives T c w ≡ e
+            → station (arriveOne s T c x) p .host ≡ run H (reading R p t) (tickedHost p) (copiesTo s p T w c ++ cond (arrives T c w && eqb q p) (copyCall s c ∷ []) [])
+        host p h true e =
+            let now : arrives T c x ≡ true = a .1 c ∙ e in
+            ap (λ (d : Bool). station (cond d (hand s T c q x) x) p .host) now ∙ here p h (eqb q p) refl
+            ∙ ap (λ (d : Bool). run H (reading R p t) (tickedHost p) (copiesTo s p T w c ++ cond (d && eqb q p) (copyCall s c ∷ []) [])) (sym e)
+        host p h false e =
+            let now : arrives T c x ≡ false = a .1 c ∙ e in
+            ap (λ (d : Bool). station (cond d (hand s T c q x) x) p .host) now ∙ a .2 p h
+            ∙ sym (more p [] ∙ run-none H (reading R p t) (run H (reading R p t) (tickedHost p) (copiesTo s p T w c)))
+            ∙ ap (λ (d : Bool). run H (reading R p t) (tickedHost p) (copiesTo s p T w c ++ cond (d && eqb q p) (copyCall s c ∷ []) [])) (sym e)
+
+    pub after-copies : (c : ℕ) → c ≤ 24 * s .«start_count» → AfterCopies c (arrived s T c w)
+    unfolding copiesTo
+    after-copies c few =
+        keeps (arriveOne s T) AfterCopies c (tickAll s T w)
+        (ticked-both s v T w b, (λ i. refl), λ p h. ticked-host p h ∙ sym (run-none H (reading R p t) (tickedHost p)))
+        (λ i x h a. copy-step i x (omega arith) a)
+
+    abbrev pub AfterStarts : ℕ → World → Type 0
+    AfterStarts k x = Both s v x × ((p : ℕ) → p < n (s .plan) → station x p .host ≡ run H (reading R p t) (run H (reading R p t) (tickedHost p) (copiesTo s p T w (24 * s .«start_count»))) (startsTo s p T k))
+
+    pub start-step : (k : ℕ) (x : World) → k < s .«start_count» → AfterStarts k x → AfterStarts (suc k) (startOne s T k x)
+    unfolding startsTo
+    start-step k x few a = (start-both s v T k x few (a .0), λ p h. host p h (eqb (start s k .tick .0) t))
+      where
+        q : ℕ
+        q = start s k .host
+
+        o : Order
+        o = start s k .order
+
+        copied : ℕ → Host
+        copied p = run H (reading R p t) (tickedHost p) (copiesTo s p T w (24 * s .«start_count»))
+
+        more : (p : ℕ) (l : List Call) → run H (reading R p t) (copied p) (startsTo s p T k ++ l) ≡ run H (reading R p t) (run H (reading R p t) (copied p) (startsTo s p T k)) l
+        more p l = run-append H (reading R p t) (copied p) (startsTo s p T k) l
+
+        here : (p : ℕ) → p < n (s .plan) → (d : Bool) → eqb q p ≡ d
+            → station (tell s T k q o x) p .host ≡ run H (reading R p t) (copied p) (startsTo s p T k ++ cond d (hosts.start o ∷ []) [])
+        here p h true e =
+            let same : q ≡ p = eqb-true q p e in
+            let U = reading R p t in
+            let r = run H U (copied p) (startsTo s p T k) in
+            let low : q < length (x .stations) = let most = playable s v .n-most in omega (arith, a .0 .0 .long, v .start-host k few) in
+            let one : station (tell s T k q o x) q .host ≡ after (called (reading R q t) (station x q .host) (hosts.start o)) (station x q .host) =
+            ap (λ (z : Station). z .host) (getD-set-same (x .stations) q _ noStation low) ∙ sym (called-after (reading R q t) (station x q .host) (hosts.start o)) in
+            let two : after (called U (station x p .host) (hosts.start o)) (station x p .host) ≡ after (called U r (hosts.start o)) r = ap (λ (g : Host). after (called U g (hosts.start o)) g) (a .1 p h) in
+            ap (λ (j : ℕ). station (tell s T k q o x) j .host) (sym same) ∙ one ∙ ap (λ (j : ℕ). after (called (reading R j t) (station x j .host) (hosts.start o)) (station x j .host)) same ∙ two
+            ∙ sym (more p (hosts.start o ∷ []) ∙ run-one H U r (hosts.start o))
+        here p h false e =
+            ap (λ (z : Station). z .host) (getD-set-other (x .stations) q p _ noStation (λ f. eqb-false q p e (sym f))) ∙ a .1 p h
+            ∙ sym (more p [] ∙ run-none H (reading R p t) (run H (reading R p t) (copied p) (startsTo s p T k)))
+
+        host : (p : ℕ) → p < n (s .plan) → (e : Bool)
+            → station (cond e (tell s T k q o x) x) p .host ≡ run H (reading R p t) (copied p) (startsTo s p T k ++ cond (e && eqb q p) (hosts.start o ∷ []) [])
+        host p h true = here p h (eqb q p) refl
+        host p h false = a .1 p h ∙ sym (more p [] ∙ run-none H (reading R p t) (run H (reading R p t) (copied p) (startsTo s p T k)))
+
+    pub after-starts : (k : ℕ) → k ≤ s .«start_count» → AfterStarts k (started s T k w)
+    unfolding startsTo
+    after-starts k few =
+        let a = after-copies (24 * s .«start_count») (omega arith) in
+        keeps (startOne s T) AfterStarts k (arrived s T (24 * s .«start_count») w)
+        (a .0, λ p h. a .2 p h ∙ sym (run-none H (reading R p t) (run H (reading R p t) (tickedHost p) (copiesTo s p T w (24 * s .«start_count»)))))
+        (λ i x h q. start-step i x (omega arith) q)
+
+  -- ---- at every tick
+
+  pub same-host : (t p : ℕ) → t ≤ s .end .0 + 1 → p < n (s .plan) → before H R p t ≡ station (world s t) p .host
+  unfolding before opening play inTurn
+  same-host zero p e h = sym (ap (λ (a : Station). a .host) (getD-listed 8 _ p noStation (let most = playable s v .n-most in omega arith)))
+  same-host (suc t) p e h =
+      let within : leb t (s .end .0) ≡ true = le-leb t (s .end .0) (omega arith) in
+      let calls : callsAt R p t ≡ callsOf s p t = ap (λ (b : Bool). cond b (callsOf s p t) []) within in
+      let room : roomAt R p t ≡ 512 = ap (λ (b : Bool). cond b 512 512) within in
+      let U = reading R p t in
+      let g = station (world s t) p .host in
+      let first : H .tick U (roomAt R p t) (before H R p t) ≡ tickedHost t (world s t) (world-both s v t) p =
+      ap (λ (r : ℕ). H .tick U r (before H R p t)) room ∙ ap (H .tick U 512) (same-host t p (omega arith) h) in
+      ap (λ (c : List Call). run H U (H .tick U (roomAt R p t) (before H R p t)) c) calls
+      ∙ ap (λ (k : Host). run H U k (callsOf s p t)) first
+      ∙ run-append H U (tickedHost t (world s t) (world-both s v t) p) (copiesTo s p (record { 0 = t }) (world s t) (24 * s .«start_count»)) (startsTo s p (record { 0 = t }) (s .«start_count»))
+      ∙ sym (after-starts t (world s t) (world-both s v t) (s .«start_count») (omega arith) .1 p h)

@@ -10,7 +10,7 @@ use Rattle.diffusion.specs.Hosts.{Call, receive}
 use Rattle.diffusion.specs.Hosts as hosts
 use Rattle.diffusion.specs.Run.{Story}
 use Rattle.diffusion.specs.Ours.{carried}
-use Rattle.engine.specs.declared.world.World.{World}
+use Rattle.engine.specs.declared.World.{World}
 use Rattle.engine.specs.Parts.{start, order, startOf, linkOf, receiver}
 use Rattle.engine.specs.Run.{arrives, world}
 

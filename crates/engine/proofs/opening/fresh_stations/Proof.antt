@@ -7,7 +7,7 @@ use lib.ListN.{set}
 use mathlib.Core.List.{List}
 use Rattle.lists.specs.Lists.{pad, listed}
 use Rattle.lists.proofs.Listing.{length-listed, fill-start, fill-next}
-use Rattle.engine.specs.declared.world.Station.{Station}
+use Rattle.engine.specs.declared.Station.{Station}
 use Rattle.engine.specs.Inside.{freshStation}
 use Rattle.engine.proofs.Turns.{full}
 use Rattle.engine.proofs.opening.fresh_stations.Statement.{statement}

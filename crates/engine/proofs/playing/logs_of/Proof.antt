@@ -8,7 +8,7 @@ use mathlib.Core.List.{List, []}
 use Rattle.lists.specs.Lists.{pad, listed}
 use Rattle.lists.proofs.Listing.{length-listed, fill-start, fill-next}
 use Rattle.engine.specs.declared.Log.{Log}
-use Rattle.engine.specs.declared.world.Station.{Station}
+use Rattle.engine.specs.declared.Station.{Station}
 use Rattle.engine.specs.Parts.{logOf, noStation}
 use Rattle.engine.proofs.Turns.{full}
 use Rattle.engine.proofs.playing.logs_of.Statement.{statement}

@@ -7,7 +7,7 @@ use native.Mathlib.Omega.{arith}
 use borrow.Author.Tests.{not-true}
 use lib.ListN.{getD}
 use Rattle.lists.proofs.Bools.{and-left, and-right}
-use Rattle.engine.specs.declared.world.World.{World}
+use Rattle.engine.specs.declared.World.{World}
 use Rattle.engine.specs.Parts.{noStation}
 use Rattle.engine.proofs.Logs.{room-same}
 use Rattle.engine.proofs.Copies.{copiesOf, arrive-grows, world-most}

@@ -4,7 +4,7 @@ use mathlib.Core.Path.{_≡_, refl, sym, ap, _∙_}
 use Prim.Native.Nat.{ℕ, _+_, _-_, _*_, _≤_, _<_}
 use native.Mathlib.Omega.{arith}
 use Rattle.network.specs.Network.{m, has}
-use Rattle.engine.specs.declared.world.Post.{Post}
+use Rattle.engine.specs.declared.Post.{Post}
 use Rattle.engine.specs.Turns.{inTurn}
 use Rattle.engine.specs.Parts.{copyFrom}
 use Rattle.engine.specs.Run.{sent, sendOne}

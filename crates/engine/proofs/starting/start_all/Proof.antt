@@ -4,7 +4,7 @@ use mathlib.Core.Path.{_≡_, refl, sym, ap, _∙_}
 use Prim.Native.Nat.{ℕ, _+_, _-_, _*_, _≤_, _<_}
 use native.Mathlib.Omega.{arith}
 use lib.Dec.{eqb}
-use Rattle.engine.specs.declared.world.World.{World}
+use Rattle.engine.specs.declared.World.{World}
 use Rattle.engine.specs.Turns.{inTurn}
 use Rattle.engine.specs.Parts.{start}
 use Rattle.engine.specs.Run.{tell, startOne}

@@ -7,7 +7,7 @@ use native.Mathlib.Omega.{arith}
 use lib.ListN.{getD, set}
 use Rattle.network.specs.Network.{n}
 use Rattle.clock.specs.declared.Reading.{Reading}
-use Rattle.engine.specs.declared.world.Station.{Station}
+use Rattle.engine.specs.declared.Station.{Station}
 use Rattle.engine.specs.Turns.{inTurn}
 use Rattle.engine.specs.Parts.{noStation}
 use Rattle.engine.specs.Run.{ticked, tickOne}
