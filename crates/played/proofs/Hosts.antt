@@ -59,7 +59,7 @@ unfolding inTurn
 tick-long s t zero l = refl
 tick-long s t (suc i) l = length-set (inTurn i (tickOne s t) l) i _ ∙ tick-long s t i l
 
-tick-at : (s : Schedule) (t : Tick) (i p : ℕ) (l : List Station) → p < i → i ≤ length l → getD (inTurn i (tickOne s t) l) p noStation ≡ ticked (clock s t p) (getD l p noStation)
+pub tick-at : (s : Schedule) (t : Tick) (i p : ℕ) (l : List Station) → p < i → i ≤ length l → getD (inTurn i (tickOne s t) l) p noStation ≡ ticked (clock s t p) (getD l p noStation)
 unfolding inTurn
 tick-at s t zero p l h k = let f : ⊥ = omega arith in absurd f
 tick-at s t (suc i) p l h k = go (eqb p i) refl (tick-at s t i p l)
