@@ -1,5 +1,6 @@
 #!/usr/bin/env python3
 """Writes each incident, NAME.schedule, and the text that it must give, NAME.txt, by the reading of the build paper in checks/replay.py.
+Writes all of them, in the alphabetical order of the files, to crates/replay_cases too: stdin and stdout.
 
   python3 incidents/make.py
 """
@@ -187,9 +188,21 @@ def rules():
     yield "32-first-of-two", case(offsets=[3, 0, 0], end=4097, fates=[(0, 1, 2, LOST)])
 
 
+def cases(made):
+    """The input of the program replay_cases, each schedule after its length, and what it must write, each text after a line with its number."""
+    crate = HERE.parent / "crates" / "replay_cases"
+    both = [made[name] for name in sorted(made)]
+    (crate / "stdin").write_bytes(b"".join(len(data).to_bytes(2, "big") + data for data, _ in both))
+    (crate / "stdout").write_text("".join(f"incident {k}\n{text}" for k, (_, text) in enumerate(both)))
+
+
 if __name__ == "__main__":
+    made = {}
     for group in (runs(), shapes(), plans(), rules()):
         for name, records in group:
             data = b"".join(records)
+            text = report(data)
+            made[f"{name}.schedule"] = data, text
             (HERE / f"{name}.schedule").write_bytes(data)
-            (HERE / f"{name}.txt").write_text(report(data))
+            (HERE / f"{name}.txt").write_text(text)
+    cases(made)
