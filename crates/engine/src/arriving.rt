@@ -13,6 +13,7 @@ ghost use mathlib.Core.Bool.{_&&_};
 ghost use Prim.Native.Nat.{_*_, _≤_, _<_};
 ghost use lib.Dec.{ltb, eqb};
 ghost use lib.ListN.{getD};
+ghost use Rattle.lists.specs.Searches.{some};
 ghost use Rattle.engine.specs.Turns.{inTurn};
 ghost use Rattle.engine.specs.Parts.{noTick, receiver};
 ghost use Rattle.engine.specs.Run.{hand, arriveOne};
@@ -34,6 +35,21 @@ pub(crate) fn arrive_all(s: Schedule, t: Tick, world: World) -> World
         }
     }
     w
+}
+
+// Whether some copy below n arrives at this tick.
+pub(crate) fn any_arrives(post: Post, t: Tick, n: usize) -> bool
+    requires { ⌜ n ≤ 384 ⌝ }
+    ensures { λ r. ⌜ r ≡ some n (λ c. ltb 0 (t .0) && eqb (getD (post .arrivals) c noTick .0) (t .0)) ⌝ }
+{
+    let mut found = false;
+    let mut c: usize = 0;
+    while c < n {
+        let arrival = post.arrivals[c];
+        found = ((0 < t.0) & (arrival.0 == t.0)) | found;
+        c += 1;
+    }
+    found
 }
 
 // The copy at place c is handed to its receiver.

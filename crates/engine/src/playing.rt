@@ -1,9 +1,11 @@
 // At each tick all hosts tick, then copies arrive, then orders are started.
 use crate::Log;
 use crate::Outcome;
+use crate::arriving::any_arrives;
 use crate::arriving::arrive_all;
 use crate::opening::no_log;
 use crate::opening::open;
+use crate::starting::any_starts;
 use crate::starting::start_all;
 use crate::ticking::tick_all;
 use crate::world::Station;
@@ -45,6 +47,10 @@ fn play_one(s: Schedule, t: u64, w: World) -> World
         post,
         refusals,
     };
+    // Most ticks are quiet, and the rest is passed on by value.
+    if !any_arrives(post, Tick(t), 24 * s.start_count) & !any_starts(s, Tick(t)) {
+        return ticked;
+    }
     let arrived = arrive_all(s, Tick(t), ticked);
     start_all(s, Tick(t), arrived)
 }

@@ -13,6 +13,7 @@ use schedule::Start;
 ghost use mathlib.Core.Path.{_≡_};
 ghost use Prim.Native.Nat.{_≤_, _<_};
 ghost use lib.Dec.{eqb};
+ghost use Rattle.lists.specs.Searches.{some};
 ghost use Rattle.engine.specs.Turns.{inTurn};
 ghost use Rattle.engine.specs.Parts.{start};
 ghost use Rattle.engine.specs.Run.{tell, startOne};
@@ -33,6 +34,20 @@ pub(crate) fn start_all(s: Schedule, t: Tick, world: World) -> World
         }
     }
     w
+}
+
+// Whether some order is started at this tick.
+pub(crate) fn any_starts(s: Schedule, t: Tick) -> bool
+    requires { ⌜ s .«start_count» ≤ 16 ⌝ }
+    ensures { λ r. ⌜ r ≡ some (s .«start_count») (λ k. eqb (start s k .tick .0) (t .0)) ⌝ }
+{
+    let mut found = false;
+    let mut k: usize = 0;
+    while k < s.start_count {
+        found = is_now(s.starts[k], t) | found;
+        k += 1;
+    }
+    found
 }
 
 fn start(s: Schedule, t: Tick, k: usize, w: World) -> World
