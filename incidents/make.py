@@ -84,10 +84,15 @@ def storm():
                     starts=[(0, 3, "publish 7 25"), (50, 0, "halt 7"), (100, 5, "withdraw 7")])
 
 
+def order(k):
+    """The four kinds in turn, with images at both ends of their range."""
+    words = ("publish {big} {share}", "halt {k}", "resume {k}", "withdraw {big}")
+    return words[k % 4].format(k=k, big=2**32 - 1 - k, share=100 - k)
+
+
 def largest():
     """Host 3 and the link 2-6 are faulty; every copy has a fate, and every third start's is lost where it may be."""
-    words = ("publish {big} {share}", "halt {k}", "resume {k}", "withdraw {big}")
-    starts = [(250 * k, 5 * k % 8, words[k % 4].format(k=k, big=2**32 - 1 - k, share=100 - k)) for k in range(15)] + [(4096, 7, "halt 4294967295")]
+    starts = [(250 * k, 5 * k % 8, order(k)) for k in range(15)] + [(4096, 7, "halt 4294967295")]
     may_lose = [way for way in both_ways(CUBE) if 3 in way or set(way) == {2, 6}]
     fates = [(k, a, b, LOST if k % 3 == 2 and (a, b) in may_lose else 1 + (11 * k + 7 * a + 5 * b) % 64) for k in range(16) for a, b in both_ways(CUBE)]
     return schedule(hosts=8, links=CUBE, dark=[3], pi=1, cut=[CUBE.index((2, 6))], big_l=1, delay=64, skew=64,
