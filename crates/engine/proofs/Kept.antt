@@ -16,6 +16,7 @@ use Rattle.lists.proofs.Order.{insert-rising, rising-tail}
 use Rattle.lists.proofs.Loops.{keep-both}
 use Rattle.lists.proofs.Rises.{first-before}
 use Rattle.clock.specs.declared.Reading.{Reading}
+use Rattle.host.specs.Make.{cleared}
 use Rattle.host.specs.State.{Sized, heldOf, sameName, before, sound}
 use Rattle.host.specs.Tick.{dueOf, waitingOf, tickRefusal}
 use Rattle.host.specs.Calls.{Call, refusal, becomes, after}
@@ -49,6 +50,7 @@ pub record Kept (s : Schedule) (p : ℕ) (a : Station) : Type 0 where
   pub sound : sound (a .host) ≡ true
   pub sized : Sized (a .host)
   pub own : a .host .own ≡ p
+  pub plan : a .host .plan ≡ cleared (s .plan)
   pub set-out : a .log ≡ logOf (listOf (a .log))
   pub rise : rising before (taken a) ≡ true
   pub named : (x : Held) → In x (taken a) → Named s x
@@ -104,8 +106,8 @@ module _ (s : Schedule) where
     other-name y l true e = let same = name-is x y e .0 in let f : ⊥ = omega arith in absurd f
     other-name y l false e = refl
 
-    new-name : any (sameName x) (taken a) ≡ false
-    new-name = member-none (sameName x) (taken a) (λ y i. go y (in-append (gone a) (heldOf (a .host)) y i))
+    pub not-taken : any (sameName x) (taken a) ≡ false
+    not-taken = member-none (sameName x) (taken a) (λ y i. go y (in-append (gone a) (heldOf (a .host)) y i))
       where
         go : (y : Held) → In y (gone a) ⊎ In y (heldOf (a .host)) → sameName x y ≡ false
         go y (inl i) = other-name y (later y i) (sameName x y) refl
@@ -129,7 +131,7 @@ module _ (s : Schedule) where
     pub more-rises : rising before (gone a ++ insert before x (heldOf (a .host))) ≡ true
     more-rises =
         ap (rising before) (sym (behind (gone a) (heldOf (a .host)) later))
-        ∙ insert-rising before (sameName x) x (λ z n b. before-total x z n b) (taken a) (k .rise) new-name
+        ∙ insert-rising before (sameName x) x (λ z n b. before-total x z n b) (taken a) (k .rise) not-taken
 
     pub more-named : Named s x → (y : Held) → In y (gone a ++ insert before x (heldOf (a .host))) → Named s y
     more-named f y i = go (in-append (gone a) (insert before x (heldOf (a .host))) y i)

@@ -10,3 +10,5 @@ pub mod Steps
 pub mod Worlds
 pub mod Plays
 pub mod Runs
+pub mod Posted
+pub mod Sends

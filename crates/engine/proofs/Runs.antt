@@ -2,12 +2,15 @@
 use mathlib.Core.Path.{_≡_, refl, sym, ap, _∙_}
 use mathlib.Core.Bool.{Bool, true, false, cond}
 use mathlib.Core.List.{List, []}
-use Prim.Native.Nat.{ℕ, _+_}
+use Prim.Native.Nat.{ℕ, zero, suc, _+_, _<_}
 use native.Mathlib.Omega.{arith}
-use borrow.Author.Tests.{eqb-true}
-use lib.Dec.{eqb}
-use lib.ListN.{getD-replicate}
+use borrow.Author.Tests.{eqb-true, ltb-true, ltb-false}
+use lib.Dec.{ltb, eqb}
+use lib.ListN.{getD, replicate, getD-replicate}
 use Rattle.lists.proofs.Listing.{getD-listed}
+use Rattle.network.specs.Network.{n, m, link}
+use Rattle.network.proofs.Ranges.{ends}
+use Rattle.network.proofs.Answers.{fine}
 use Rattle.schedule.specs.declared.Schedule.{Schedule}
 use Rattle.schedule.specs.declared.Answer.{Answer}
 use Rattle.schedule.specs.Schedule.{scheduleOf}
@@ -36,6 +39,22 @@ playable s w =
       ticks = λ k. let t = any-tick s w k in let e = w .end-high in omega arith;
       end = w .end-high;
     }
+
+-- the ends of any place for a link are hosts of the plan: an unused one has host 0 twice
+pub link-low : (s : Schedule) → Within s → (i : ℕ) → (link (s .plan) i .a < n (s .plan)) × (link (s .plan) i .b < n (s .plan))
+link-low s w i = go (ltb i (m (s .plan))) refl
+  where
+    some : 0 < n (s .plan)
+    some = playable s w .n-some
+
+    go : (b : Bool) → ltb i (m (s .plan)) ≡ b → (link (s .plan) i .a < n (s .plan)) × (link (s .plan) i .b < n (s .plan))
+    go true e = let f = ends (s .plan) (fine (s .plan) (w .clear) .links) i (ltb-true _ _ e) in (f .a-host, f .b-host)
+    go false e = rw (w .link-none i (ltb-false _ _ e)) (some, some)
+
+pub getD-blank : {A : Type 0} (n i : ℕ) (z : A) → getD (replicate n z) i z ≡ z
+getD-blank zero i z = refl
+getD-blank (suc n) zero z = refl
+getD-blank (suc n) (suc i) z = getD-blank n i z
 
 -- what reading says of the answer is what it says of the bytes
 refusal-is : (bs : List ℕ) (a : Answer) (b : Bool) → says a ≡ answered bs → b ≡ eqb (says a .0) 0 → eqb (readRefusal bs) 0 ≡ b

@@ -14,8 +14,9 @@ use Rattle.lists.proofs.MemberLaws.{in-append}
 use Rattle.clock.specs.declared.Reading.{Reading}
 use Rattle.network.specs.Network as net
 use Rattle.network.proofs.Ranges.{ranges}
+use Rattle.orders.specs.declared.Order.{Order}
 use Rattle.host.specs.State.{heldOf, sameName, before}
-use Rattle.host.specs.Start.{startHost}
+use Rattle.host.specs.Start.{startOf, startHost}
 use Rattle.host.specs.Receive.{receiveHost}
 use Rattle.host.specs.Tick.{dueOf, waitingOf, tickHost}
 use Rattle.host.specs.Calls.{Call, refusal, becomes, after}
@@ -32,7 +33,7 @@ use Rattle.engine.specs.declared.world.Station.{Station}
 use Rattle.engine.specs.Parts.{noDelivery, listOf, logOf, clock, start, order}
 use Rattle.engine.specs.Run.{delivered, delivery, ticked}
 use Rattle.engine.proofs.Logs.{due-then}
-use Rattle.engine.proofs.Kept.{gone, taken, Named, Kept, more-rises, more-named}
+use Rattle.engine.proofs.Kept.{gone, taken, Named, Kept, not-taken, more-rises, more-named}
 
 -- a sound host's Δ is at least 1, since ε is
 bound-some : (h : Host) → SoundIs h → 1 ≤ h .bound
@@ -69,6 +70,7 @@ module _ (s : Schedule) (p : ℕ) (a : Station) (k : Kept s p a) (u : Reading) w
         sound = sound-is-kept h u c (k .sized) (k .sound);
         sized = sized-is-kept h u c (k .sized);
         own = same .own ∙ k .own;
+        plan = same .plan ∙ k .plan;
         set-out = k .set-out;
         rise = ap (λ (l : List Held). rising before (gone a ++ l)) held ∙ more-rises s p a k x later new;
         named = λ y i. more-named s p a k x later new f y (rw held at i);
@@ -78,6 +80,21 @@ module _ (s : Schedule) (p : ℕ) (a : Station) (k : Kept s p a) (u : Reading) w
   -- a call that is refused
   kept-refused : (c : Call) → eqb (refusal h (u .0) c) 0 ≡ false → Kept s p (with-host (after h u c))
   kept-refused c e = let same : after h u c ≡ h = ap (λ (t : Bool). cond t (becomes h u c) h) e in rw same k
+
+  -- a copy that is not refused is of an order that the host has neither held nor delivered
+  hand-new : (l : ℕ) (x : Held) → refusal h (u .0) (calls.receive l 0 x) ≡ 0 → any (sameName x) (heldOf h) ≡ false
+  hand-new l x clear = let is = receive-is h (u .0) l 0 x clear in new-name x (heldOf h) (is .not-known) (is .not-other)
+
+  hand-later : (l : ℕ) (x : Held) → refusal h (u .0) (calls.receive l 0 x) ≡ 0 → (y : Held) → In y (gone a) → y .stamp .0 < x .stamp .0
+  hand-later l x clear y i =
+      let is = receive-is h (u .0) l 0 x clear in
+      let old = k .passed y i in
+      let now = is .later in
+      let due = is .before-due in
+      omega arith
+
+  pub hand-untaken : (l : ℕ) (x : Held) → refusal h (u .0) (calls.receive l 0 x) ≡ 0 → any (sameName x) (taken a) ≡ false
+  hand-untaken l x clear = not-taken s p a k x (hand-later l x clear) (hand-new l x clear)
 
   pub hand-keeps : (l j : ℕ) → j < s .«start_count» → Kept s p (with-host (receiveHost h u l 0 (order s j)))
   hand-keeps l j few = go (eqb (refusal h (u .0) c) 0) refl
@@ -92,31 +109,42 @@ module _ (s : Schedule) (p : ℕ) (a : Station) (k : Kept s p a) (u : Reading) w
       go false e = kept-refused c e
       go true e =
           let clear : refusal h (u .0) c ≡ 0 = eqb-true _ _ e in
-          let is = receive-is h (u .0) l 0 x clear in
-          takes c x (held-is h u c clear) (new-name x (heldOf h) (is .not-known) (is .not-other))
-          (λ y i. let old = k .passed y i in let now = is .later in let due = is .before-due in omega arith)
-          (j, few, refl)
+          takes c x (held-is h u c clear) (hand-new l x clear) (hand-later l x clear) (j, few, refl)
+
+  -- nor is an order that is started
+  tell-new : (o : Order) → refusal h (u .0) (calls.start o) ≡ 0 → any (sameName (startOf h u o)) (heldOf h) ≡ false
+  tell-new o clear = new-start h (k .sized) u o (start-is h (u .0) o clear)
+
+  tell-later : (o : Order) → refusal h (u .0) (calls.start o) ≡ 0 → (y : Held) → In y (gone a) → y .stamp .0 < u .0
+  tell-later o clear y i =
+      let is = start-is h (u .0) o clear in
+      let Δ = bound-some h (is .sound) in
+      let old = k .passed y i in
+      let now = is .later in
+      omega arith
+
+  pub tell-untaken : (o : Order) → refusal h (u .0) (calls.start o) ≡ 0 → any (sameName (startOf h u o)) (taken a) ≡ false
+  tell-untaken o clear = not-taken s p a k (startOf h u o) (tell-later o clear) (tell-new o clear)
 
   pub tell-keeps : (j : ℕ) → j < s .«start_count» → u ≡ clock s (start s j .tick) (start s j .host) → p ≡ start s j .host
       → Kept s p (with-host (startHost h u (start s j .order)))
   tell-keeps j few at here = go (eqb (refusal h (u .0) c) 0) refl
     where
+      o : Order
+      o = start s j .order
+
       c : Call
-      c = calls.start (start s j .order)
+      c = calls.start o
 
       x : Held
-      x = record { stamp = u; source = h .own; order = start s j .order }
+      x = startOf h u o
 
       go : (t : Bool) → eqb (refusal h (u .0) c) 0 ≡ t → Kept s p (with-host (after h u c))
       go false e = kept-refused c e
       go true e =
           let clear : refusal h (u .0) c ≡ 0 = eqb-true _ _ e in
-          let is = start-is h (u .0) (start s j .order) clear in
-          let Δ = bound-some h (is .sound) in
           let source : h .own ≡ start s j .host = k .own ∙ here in
-          takes c x (held-is h u c clear) (new-start h (k .sized) u (start s j .order) is)
-          (λ y i. let old = k .passed y i in let now = is .later in omega arith)
-          (j, few, cc (at, source))
+          takes c x (held-is h u c clear) (tell-new o clear) (tell-later o clear) (j, few, cc (at, source))
 
   -- ---- a tick: what it delivers goes behind what was delivered, and the rest stays
 
@@ -128,6 +156,26 @@ module _ (s : Schedule) (p : ℕ) (a : Station) (k : Kept s p a) (u : Reading) w
       ap (map (λ (d : Delivery). d .what)) (take-pad 16 noDelivery (listOf (a .log) ++ map (delivery u) l))
       ∙ map-append (λ (d : Delivery). d .what) (listOf (a .log)) (map (delivery u) l)
       ∙ ap (λ (t : List Held). gone a ++ t) (what-delivered u l)
+
+  pub tick-taken : taken (ticked u a) ≡ taken a
+  tick-taken = go (eqb (refusal h (u .0) c) 0) refl
+    where
+      c : Call
+      c = calls.ticks 512
+
+      go : (t : Bool) → eqb (refusal h (u .0) c) 0 ≡ t → taken (ticked u a) ≡ taken a
+      go false e =
+          let host : after h u c ≡ h = ap (λ (t : Bool). cond t (becomes h u c) h) e in
+          let none : delivered h u ≡ [] = ap (λ (t : Bool). cond t (dueOf h (u .0)) []) e in
+          ap (λ (l : List Held). l ++ heldOf (after h u c)) (gone-is (delivered h u) ∙ ap (λ (l : List Held). gone a ++ l) none ∙ append-nil (gone a))
+          ∙ ap (λ (g : Host). gone a ++ heldOf g) host
+      go true e =
+          let clear : refusal h (u .0) c ≡ 0 = eqb-true _ _ e in
+          let some : delivered h u ≡ dueOf h (u .0) = accepted (refusal h (u .0) c) (dueOf h (u .0)) [] clear in
+          ap (λ (l : List Held). l ++ heldOf (after h u c)) (gone-is (delivered h u) ∙ ap (λ (l : List Held). gone a ++ l) some)
+          ∙ ap (λ (l : List Held). (gone a ++ dueOf h (u .0)) ++ l) (held-is h u c clear)
+          ∙ append-assoc (gone a) (dueOf h (u .0)) (waitingOf h (u .0))
+          ∙ ap (λ (l : List Held). gone a ++ l) (due-then (h .bound) (u .0) (heldOf h) (tick-is h (u .0) 512 clear .sound .rise))
 
   pub tick-keeps : Kept s p (ticked u a)
   tick-keeps = go (eqb (refusal h (u .0) c) 0) refl
@@ -150,18 +198,14 @@ module _ (s : Schedule) (p : ℕ) (a : Station) (k : Kept s p a) (u : Reading) w
           let same = same-host h u c in
           let some : delivered h u ≡ dueOf h (u .0) = accepted (refusal h (u .0) c) (dueOf h (u .0)) [] clear in
           let out : gone (ticked u a) ≡ gone a ++ dueOf h (u .0) = gone-is (delivered h u) ∙ ap (λ (l : List Held). gone a ++ l) some in
-          let all : taken (ticked u a) ≡ taken a =
-          ap (λ (l : List Held). l ++ heldOf (after h u c)) out
-          ∙ ap (λ (l : List Held). (gone a ++ dueOf h (u .0)) ++ l) (held-is h u c clear)
-          ∙ append-assoc (gone a) (dueOf h (u .0)) (waitingOf h (u .0))
-          ∙ ap (λ (l : List Held). gone a ++ l) (due-then (h .bound) (u .0) (heldOf h) (is .sound .rise)) in
           record {
             sound = sound-is-kept h u c (k .sized) (k .sound);
             sized = sized-is-kept h u c (k .sized);
             own = same .own ∙ k .own;
+            plan = same .plan ∙ k .plan;
             set-out = log-kept (listOf (a .log) ++ map (delivery u) (delivered h u));
-            rise = ap (rising before) all ∙ k .rise;
-            named = λ x i. k .named x (rw all at i);
+            rise = ap (rising before) tick-taken ∙ k .rise;
+            named = λ x i. k .named x (rw tick-taken at i);
             passed = λ x i. late clear x (in-append (gone a) (dueOf h (u .0)) x (rw out at i));
           }
         where

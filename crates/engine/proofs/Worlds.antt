@@ -66,13 +66,15 @@ module _ (s : Schedule) (z : Playable s) where
           rw at (other (omega arith))
       there p h false e = rw (getD-set-other l q p a noStation (eqb-false p q e)) (g .others p h)
 
-  tick-good : (t : Tick) (l : List Station) → Good s l → Good s (inTurn (n (s .plan)) (tickOne s t) l)
-  tick-good t l g =
-      keeps (tickOne s t) (λ i k. Good s k) (n (s .plan)) l g
-      (λ i k h q. put k q i (ticked (clock s t i) (getD k i noStation)) (let most = z .n-most in omega arith)
-      (λ low. tick-keeps s i (getD k i noStation) (q .hosts i low) (clock s t i)) (λ high. let f : ⊥ = omega arith in absurd f))
+  pub tick-one-good : (t : Tick) (i : ℕ) (l : List Station) → i < n (s .plan) → Good s l → Good s (tickOne s t i l)
+  tick-one-good t i l h g =
+      put l g i (ticked (clock s t i) (getD l i noStation)) (let most = z .n-most in omega arith)
+      (λ low. tick-keeps s i (getD l i noStation) (g .hosts i low) (clock s t i)) (λ high. let f : ⊥ = omega arith in absurd f)
 
-  arrive-good : (t : Tick) (c : ℕ) (w : World) → c < 24 * s .«start_count» → Good s (w .stations) → Good s (arriveOne s t c w .stations)
+  pub tick-good : (t : Tick) (l : List Station) → Good s l → Good s (inTurn (n (s .plan)) (tickOne s t) l)
+  tick-good t l g = keeps (tickOne s t) (λ i k. Good s k) (n (s .plan)) l g (λ i k h q. tick-one-good t i k h q)
+
+  pub arrive-good : (t : Tick) (c : ℕ) (w : World) → c < 24 * s .«start_count» → Good s (w .stations) → Good s (arriveOne s t c w .stations)
   arrive-good t c w few g = go (arrives t c w)
     where
       q : ℕ
@@ -88,7 +90,7 @@ module _ (s : Schedule) (z : Playable s) where
           put (w .stations) g q (record { host = receiveHost (station w q .host) (clock s t q) (linkOf c) 0 (order s (startOf c)); log = station w q .log }) (low (eqb (c % 2) 0))
           (λ h. hand-keeps s q (station w q) (g .hosts q h) (clock s t q) (linkOf c) (startOf c) (omega arith)) (g .others q)
 
-  start-good : (t : Tick) (k : ℕ) (w : World) → k < s .«start_count» → Good s (w .stations) → Good s (startOne s t k w .stations)
+  pub start-good : (t : Tick) (k : ℕ) (w : World) → k < s .«start_count» → Good s (w .stations) → Good s (startOne s t k w .stations)
   start-good t k w few g = go (eqb (start s k .tick .0) (t .0)) refl
     where
       p : ℕ
@@ -112,7 +114,7 @@ module _ (s : Schedule) (z : Playable s) where
       keeps (startOne s i) (λ k v. Good s (v .stations)) (s .«start_count») (arrived s i (24 * s .«start_count») w)
       (arrived-good i (24 * s .«start_count») w (omega arith) g) (λ k v h q. start-good i k v h q)
 
-  open-good : Good s (opening s .stations)
+  pub open-good : Good s (opening s .stations)
   unfolding opening
   open-good =
       record {
@@ -130,6 +132,7 @@ module _ (s : Schedule) (z : Playable s) where
             sound = is-sound (fresh (s .plan) 1 p) (fresh-sound (s .plan) 1 p (record { planned = z .planned; is-rules = refl; own-below = h }));
             sized = fresh-sized (s .plan) 1 p;
             own = refl;
+            plan = refl;
             set-out = refl;
             rise = refl;
             named = λ x i. absurd i;

@@ -85,3 +85,6 @@ linkOf c = c % 24 / 2
 
 abbrev pub receiver : Plan → ℕ → ℕ
 receiver p c = cond (eqb (c % 2) 0) (link p (linkOf c) .b) (link p (linkOf c) .a)
+
+abbrev pub sender : Plan → ℕ → ℕ
+sender p c = cond (eqb (c % 2) 0) (link p (linkOf c) .a) (link p (linkOf c) .b)
