@@ -1,5 +1,6 @@
 #!/usr/bin/env python3
 """Writes each incident, NAME.schedule, and the text that it must give, NAME.txt, by the reading of the build paper in checks/replay.py.
+Writes all of them, in the alphabetical order of the files, to crates/replay_cases too: stdin and stdout.
 
   python3 incidents/make.py
 """
@@ -83,10 +84,15 @@ def storm():
                     starts=[(0, 3, "publish 7 25"), (50, 0, "halt 7"), (100, 5, "withdraw 7")])
 
 
+def order(k):
+    """The four kinds in turn, with images at both ends of their range."""
+    words = ("publish {big} {share}", "halt {k}", "resume {k}", "withdraw {big}")
+    return words[k % 4].format(k=k, big=2**32 - 1 - k, share=100 - k)
+
+
 def largest():
     """Host 3 and the link 2-6 are faulty; every copy has a fate, and every third start's is lost where it may be."""
-    words = ("publish {big} {share}", "halt {k}", "resume {k}", "withdraw {big}")
-    starts = [(250 * k, 5 * k % 8, words[k % 4].format(k=k, big=2**32 - 1 - k, share=100 - k)) for k in range(15)] + [(4096, 7, "halt 4294967295")]
+    starts = [(250 * k, 5 * k % 8, order(k)) for k in range(15)] + [(4096, 7, "halt 4294967295")]
     may_lose = [way for way in both_ways(CUBE) if 3 in way or set(way) == {2, 6}]
     fates = [(k, a, b, LOST if k % 3 == 2 and (a, b) in may_lose else 1 + (11 * k + 7 * a + 5 * b) % 64) for k in range(16) for a, b in both_ways(CUBE)]
     return schedule(hosts=8, links=CUBE, dark=[3], pi=1, cut=[CUBE.index((2, 6))], big_l=1, delay=64, skew=64,
@@ -187,9 +193,21 @@ def rules():
     yield "32-first-of-two", case(offsets=[3, 0, 0], end=4097, fates=[(0, 1, 2, LOST)])
 
 
+def cases(made):
+    """The input of the program replay_cases, each schedule after its length, and what it must write, each text after a line with its number."""
+    crate = HERE.parent / "crates" / "replay_cases"
+    both = [made[name] for name in sorted(made)]
+    (crate / "stdin").write_bytes(b"".join(len(data).to_bytes(2, "big") + data for data, _ in both))
+    (crate / "stdout").write_text("".join(f"incident {k}\n{text}" for k, (_, text) in enumerate(both)))
+
+
 if __name__ == "__main__":
+    made = {}
     for group in (runs(), shapes(), plans(), rules()):
         for name, records in group:
             data = b"".join(records)
+            text = report(data)
+            made[f"{name}.schedule"] = data, text
             (HERE / f"{name}.schedule").write_bytes(data)
-            (HERE / f"{name}.txt").write_text(report(data))
+            (HERE / f"{name}.txt").write_text(text)
+    cases(made)
