@@ -5,8 +5,8 @@ use mathlib.Core.Bool.{Bool, true, false, not, cond, _&&_, true≢false, false�
 use mathlib.Core.List.{List, [], _∷_, map}
 use Prim.Native.Nat.{ℕ, _+_, _*_, _≤_, _<_}
 use native.Mathlib.Omega.{arith}
-use borrow.Author.Tests.{not-false, not-true, eqb-true, eqb-false, ne-eqb, eq-eqb, leb-true, leb-false, le-leb, lt-leb, le-ltb, lt-ltb}
-use lib.Dec.{leb, ltb, eqb}
+use borrow.Author.Tests.{not-false, not-true, eqb-true, eqb-false, ne-eqb, leb-true, leb-false, le-leb, le-ltb, lt-ltb}
+use lib.Dec.{leb, eqb}
 use lib.ListN.{length}
 use Rattle.lists.specs.Members.{In}
 use Rattle.lists.specs.Lists.{any}
@@ -17,7 +17,6 @@ use Rattle.lists.proofs.TestLaws.{found, first-among}
 use Rattle.clock.specs.Clock.{largestReading, largestStamp}
 use Rattle.orders.specs.Orders.{shareFits, sameOrder}
 use Rattle.orders.specs.Rules.{hopFits}
-use Rattle.orders.specs.declared.Order.{Order}
 use Rattle.orders.proofs.Laws.{equal-same}
 use Rattle.network.specs.Network.{n, m, δ, ε, has, planRefusal}
 use Rattle.network.specs.declared.Plan.{Plan}
@@ -25,17 +24,15 @@ use Rattle.host.specs.declared.Held.{Held}
 use Rattle.host.specs.declared.Host.{Host}
 use Rattle.host.specs.State.{heldOf, sameName, sound}
 use Rattle.host.specs.Start.{startRefusal}
-use Rattle.host.specs.Calls as calls
-use Rattle.host.specs.OwnLinks.{ends, endsBut, otherLinks}
+use Rattle.host.specs.OwnLinks.{endsBut, otherLinks}
 use Rattle.host.specs.Make.{cleared}
-use Rattle.host.specs.Receive.{inPlan, copyFits, early, late, sameHeld, otherHeld, receiveTests, receiveRefusal, relayLinks, relayHop}
-use Rattle.host.specs.Tick.{due}
-use Rattle.host.proofs.Facts.{is-sound, ReceiveIs, receive-is}
+use Rattle.host.specs.Receive.{inPlan, copyFits, sameHeld, otherHeld, receiveTests, receiveRefusal, relayLinks, relayHop}
+use Rattle.host.proofs.Facts.{is-sound, receive-is}
 use Rattle.host.proofs.Names.{name-is, is-name}
 use Rattle.host.proofs.Keeps.{new-name, other-source}
 use Rattle.host.proofs.Sets.{set-has}
 use Rattle.diffusion.specs.Hosts.{Carried, Copy, Call, start, receive, Takes, Sends, Refuses, SameName}
-use Rattle.diffusion.specs.Ours.{shown, carried, heldAs, called, ours}
+use Rattle.diffusion.specs.Ours.{carried, heldAs, called, ours}
 use Rattle.diffusion.proofs.Laws.{Δ, Owns, NoName, FirstRules}
 use Rattle.diffusion.proofs.Answered.{send-is, is-sent, refusal-is}
 use Rattle.diffusion.proofs.Ours.{Ok, takes-is, is-takes}

@@ -1,15 +1,14 @@
 -- What a host of demand 2 answers a start, and that it keeps the laws that are free of the rule set. Assumes nothing.
 use mathlib.Core.Path.{_≡_, refl, sym, ap, ap₂, _∙_, subst}
 use mathlib.Core.Logic.{_⊎_, inl, inr}
-use mathlib.Core.Bool.{Bool, true, false, not, cond, _&&_, _||_, true≢false, false≢true}
-use mathlib.Core.List.{List, [], _∷_, _++_, map}
-use Prim.Native.Nat.{ℕ, _+_, _*_, _-_, _≤_, _<_}
+use mathlib.Core.Bool.{Bool, true, false, not, cond, _&&_, _||_, false≢true}
+use mathlib.Core.List.{List, [], _∷_, map}
+use Prim.Native.Nat.{ℕ, _+_, _≤_, _<_}
 use native.Mathlib.Omega.{arith}
-use borrow.Author.Tests.{not-false, not-true, eqb-true, ltb-true, ltb-false, leb-true, le-leb, le-ltb, lt-ltb, eq-eqb}
+use borrow.Author.Tests.{not-false, ltb-true, leb-true, le-leb, le-ltb, lt-ltb, eq-eqb}
 use lib.Dec.{leb, ltb, eqb}
 use lib.ListN.{length, take, getD}
 use lib.Seq.{length-take-le, getD-take}
-use Rattle.lists.specs.Tests.{firstOf}
 use Rattle.lists.specs.Members.{In, All}
 use Rattle.lists.proofs.Bools.{or-true-left, or-true-right}
 use Rattle.lists.proofs.Listed.{all-member}
@@ -19,7 +18,7 @@ use Rattle.clock.specs.Clock.{largestStamp}
 use Rattle.clock.specs.declared.Reading.{Reading}
 use Rattle.orders.specs.Orders.{shareFits}
 use Rattle.orders.specs.declared.Order.{Order}
-use Rattle.network.specs.Network.{n, m, link, has, worst, bound, window, planRefusal}
+use Rattle.network.specs.Network.{m, link, has, worst, bound, window, planRefusal}
 use Rattle.network.specs.declared.Link.{Link}
 use Rattle.network.specs.declared.Plan.{Plan}
 use Rattle.host.specs.declared.Held.{Held}
@@ -27,19 +26,17 @@ use Rattle.host.specs.declared.Host.{Host}
 use Rattle.host.specs.State.{noReading, startsOf, heldOf, lastStart, earlier, sound}
 use Rattle.host.specs.Calls as calls
 use Rattle.host.specs.OwnLinks.{ends, ownLinks}
-use Rattle.host.specs.Make.{cleared, fresh}
+use Rattle.host.specs.Make.{cleared}
 use Rattle.host.specs.Start.{withStart, startTests, startRefusal}
-use Rattle.host.specs.Tick.{tickRefusal}
-use Rattle.host.proofs.Facts.{SoundIs, is-sound, StartIs, start-is}
+use Rattle.host.proofs.Facts.{is-sound, start-is}
 use Rattle.host.proofs.Keeps.{starts-below}
 use Rattle.host.proofs.Fresh.{cleared-link}
 use Rattle.host.proofs.Sets.{set-has}
 use Rattle.host.proofs.Outcomes.{after-call, starts-are}
-use Rattle.diffusion.specs.Hosts.{Carried, Copy, Call, start, receive, after, Unrefused, Takes, Sends, Refuses}
-use Rattle.diffusion.specs.Run.{Joins}
-use Rattle.diffusion.specs.Ours.{shown, carried, heldAs, called, backwards, ours}
-use Rattle.diffusion.proofs.Laws.{Δ, W, Owns, Fourth, Laws}
-use Rattle.diffusion.proofs.Answered.{take-is, unrefused-is, is-sent, refusal-is}
+use Rattle.diffusion.specs.Hosts.{Carried, Call, start, receive, after, Unrefused, Takes, Sends, Refuses}
+use Rattle.diffusion.specs.Ours.{shown, carried, called, backwards, ours}
+use Rattle.diffusion.proofs.Laws.{W, Owns, Fourth, Laws}
+use Rattle.diffusion.proofs.Answered.{unrefused-is, is-sent, refusal-is}
 use Rattle.diffusion.proofs.Ours as our
 use Rattle.diffusion.proofs.Ours.{Ok, callOf, takes-is, is-takes, called-after}
 

@@ -1,45 +1,41 @@
 -- The hosts of demand 2 keep the laws that are free of the rule set. Assumes nothing.
 use mathlib.Core.Path.{_≡_, refl, sym, ap, _∙_, subst}
 use mathlib.Core.Logic.{_⊎_, inl, inr}
-use mathlib.Core.Bool.{Bool, true, false, not, cond, _&&_}
-use mathlib.Core.List.{List, [], _∷_, _++_, map}
-use Prim.Native.Nat.{ℕ, _+_, _*_, _-_, _≤_, _<_}
+use mathlib.Core.Bool.{Bool, true, false, cond}
+use mathlib.Core.List.{List, [], _∷_, map}
+use Prim.Native.Nat.{ℕ, _+_, _*_, _≤_, _<_}
 use native.Mathlib.Nat.{le-refl, le-trans}
 use native.Mathlib.Omega.{arith}
-use borrow.Author.Tests.{eqb-true, ltb-true, leb-true, lt-ltb}
-use lib.Dec.{leb, ltb, eqb}
-use lib.ListN.{length, take, getD}
-use lib.Seq.{length-take-le, getD-take}
-use Rattle.lists.specs.Members.{In, All}
+use borrow.Author.Tests.{eqb-true}
+use lib.Dec.{eqb}
+use lib.ListN.{length}
+use Rattle.lists.specs.Members.{In}
 use Rattle.lists.specs.Lists.{all, rising}
-use Rattle.lists.proofs.Bools.{and-left, and-right}
 use Rattle.lists.proofs.Listed.{all-member}
 use Rattle.lists.proofs.Loops.{keep-both}
 use Rattle.lists.proofs.MemberLaws.{in-all, in-map, map-in}
 use Rattle.lists.proofs.Order.{rising-tail}
 use Rattle.lists.proofs.Rises.{first-before}
 use Rattle.clock.specs.Clock.{largestReading}
-use Rattle.clock.specs.declared.Reading.{Reading}
-use Rattle.orders.specs.declared.Order.{Order}
-use Rattle.network.specs.Network.{n, worst, bound, window, planRefusal}
+use Rattle.network.specs.Network.{n, worst, bound, planRefusal}
 use Rattle.network.specs.declared.Plan.{Plan}
 use Rattle.host.specs.declared.Held.{Held}
 use Rattle.host.specs.declared.Host.{Host}
-use Rattle.host.specs.State.{noReading, startsOf, heldOf, lastStart, before, earlier, Sized}
+use Rattle.host.specs.State.{heldOf, before, Sized}
 use Rattle.host.specs.Receive.{receiveRefusal}
 use Rattle.host.specs.Calls as calls
 use Rattle.host.specs.Answers.{unless}
 use Rattle.host.specs.Make.{cleared, fresh}
-use Rattle.host.specs.Start.{withStart, startRefusal}
+use Rattle.host.specs.Start.{startRefusal}
 use Rattle.host.specs.Tick.{due, dueOf, waitingOf, tickRefusal, tickHost, afterTick}
-use Rattle.host.proofs.Facts.{SoundIs, sound-is, is-sound, TickIs, tick-is, tick-runs}
+use Rattle.host.proofs.Facts.{SoundIs, sound-is, is-sound, tick-is, tick-runs}
 use Rattle.host.proofs.Names.{before-is, before-trans}
 use Rattle.host.proofs.Keeps.{held-most}
 use Rattle.host.proofs.Fresh.{fresh-sound, fresh-sized}
-use Rattle.host.proofs.Outcomes.{after-call, accepted, sound-is-kept, sized-is-kept, same-host, OneMore, start-more, receive-more, held-is, due-in, in-due, waiting-in, in-waiting, due-rises, starts-are}
-use Rattle.diffusion.specs.Hosts.{Carried, Copy, Call, start, receive, Answer, after, Takes, Before, Rising}
-use Rattle.diffusion.specs.Ours.{shown, carried, heldAs, answered, called, backwards, ours}
-use Rattle.diffusion.proofs.Laws.{Δ, W}
+use Rattle.host.proofs.Outcomes.{after-call, accepted, sound-is-kept, sized-is-kept, same-host, OneMore, start-more, receive-more, held-is, due-in, in-due, waiting-in, in-waiting, due-rises}
+use Rattle.diffusion.specs.Hosts.{Carried, Call, start, receive, after, Takes, Before, Rising}
+use Rattle.diffusion.specs.Ours.{shown, carried, heldAs, called}
+use Rattle.diffusion.proofs.Laws.{Δ}
 use Rattle.diffusion.proofs.Answered.{take-is, is-taken, after-is}
 
 -- the state is sound, is host p's under the plan and the first rules, and its last reading is at most U

@@ -10,7 +10,7 @@ use Rattle.orders.specs.declared.Order.the-variants.{Halt}
 use Rattle.network.specs.declared.Link.{Link}
 use Rattle.network.specs.declared.Plan.{Plan}
 use Rattle.network.specs.declared.Faults.{Faults}
-use Rattle.host.specs.State.{noLink}
+use Rattle.network.specs.Network.{noLink}
 use Rattle.board.specs.Board.{holding}
 use Rattle.board.specs.declared.Stand.{Stand}
 use Rattle.board.specs.declared.Board.{Board}

@@ -1,6 +1,5 @@
 -- What follows from the claims, in the paper's names where it has one (004, section 2). Assumes nothing.
 use mathlib.Core.Path.{_≡_}
-use mathlib.Core.List.{List}
 use Prim.Native.Nat.{ℕ, _+_, _≤_, _<_}
 use Rattle.lists.specs.Members.{In}
 use Rattle.network.specs.Network.{n, ε, worst, bound, Survivor}

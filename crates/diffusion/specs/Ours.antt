@@ -16,7 +16,7 @@ use Rattle.host.specs.Start.{startSays, startOf, startHost}
 use Rattle.host.specs.Receive.{receiveSays, receiveHost}
 use Rattle.host.specs.Tick.{dueOf, tickRefusal, tickHost}
 use Rattle.diffusion.specs.Hosts as hosts
-use Rattle.diffusion.specs.Hosts.{Carried, Copy, Call, start, receive, Answer, refused, accepted}
+use Rattle.diffusion.specs.Hosts.{Carried, Call, start, receive, Answer, refused, accepted}
 
 abbrev pub shown : ℕ → Reading
 shown u = record { 0 = u }

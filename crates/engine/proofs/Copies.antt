@@ -1,5 +1,4 @@
 -- How many copies a run can have sent. Assumes nothing.
-use mathlib.Core.Path.{_≡_, refl}
 use mathlib.Core.Bool.{Bool, true, false, cond}
 use Prim.Native.Nat.{ℕ, _+_, _*_, _≤_}
 use native.Mathlib.Omega.{arith}
@@ -12,7 +11,7 @@ use Rattle.engine.specs.declared.Post.{Post}
 use Rattle.engine.specs.declared.World.{World}
 use Rattle.engine.specs.Turns.{inTurn}
 use Rattle.engine.specs.Parts.{copyFrom, startOf, receiver, start}
-use Rattle.engine.specs.Run.{sent, sendOne, send, handed, hand, arrives, arriveOne, told, tell, startOne, tickAll, arrived, started, play, opening, world}
+use Rattle.engine.specs.Run.{sent, sendOne, send, handed, hand, arrives, arriveOne, told, tell, startOne, tickAll, arrived, play, opening, world}
 use Rattle.engine.specs.Inside.{Playable}
 use Rattle.engine.proofs.Turns.{grows}
 

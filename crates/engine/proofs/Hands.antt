@@ -1,5 +1,5 @@
 -- A copy handed over and an order told, from the parts that the calls promise. Assumes nothing.
-use mathlib.Core.Path.{_≡_, sym, ap, _∙_}
+use mathlib.Core.Path.{_≡_, ap, _∙_}
 use Prim.Native.Nat.{ℕ}
 use lib.ListN.{set}
 use Rattle.clock.specs.declared.Reading.{Reading}

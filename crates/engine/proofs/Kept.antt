@@ -2,14 +2,13 @@
 -- schedule started. So there are no more of them than starts. Assumes nothing.
 use mathlib.Core.Path.{_≡_, refl, sym, ap, _∙_}
 use mathlib.Core.Logic.{_⊎_, inl, inr}
-use mathlib.Core.Bool.{Bool, true, false, cond, false≢true}
-use mathlib.Core.List.{List, [], _∷_, _++_, map, append-assoc, append-nil}
+use mathlib.Core.Bool.{Bool, true, false, false≢true}
+use mathlib.Core.List.{List, [], _∷_, _++_, map}
 use Prim.Native.Nat.{ℕ, _+_, _≤_, _<_}
 use native.Mathlib.Omega.{arith}
-use lib.ListN.{length, take, length-append}
+use lib.ListN.{length, length-append}
 use Rattle.lists.specs.Lists.{any, insert, rising}
 use Rattle.lists.specs.Members.{In, All, Distinct}
-use Rattle.lists.proofs.Places.{take-pad}
 use Rattle.lists.proofs.Listed.{in-insert, member-none, none-member, all-member}
 use Rattle.lists.proofs.MemberLaws.{in-left, in-right, in-append, in-map, pigeon-all}
 use Rattle.lists.proofs.Order.{insert-rising, rising-tail}
@@ -18,22 +17,17 @@ use Rattle.lists.proofs.Rises.{first-before}
 use Rattle.clock.specs.declared.Reading.{Reading}
 use Rattle.host.specs.Make.{cleared}
 use Rattle.host.specs.State.{Sized, heldOf, sameName, before, sound}
-use Rattle.host.specs.Tick.{dueOf, waitingOf, tickRefusal}
-use Rattle.host.specs.Calls.{Call, refusal, becomes, after}
-use Rattle.host.specs.Calls as calls
+use Rattle.host.specs.Tick.{dueOf, waitingOf}
 use Rattle.host.specs.declared.Held.{Held}
-use Rattle.host.specs.declared.Host.{Host}
-use Rattle.host.proofs.Facts.{sound-is, tick-is}
 use Rattle.host.proofs.Names.{name-is, is-name, before-is, before-trans, before-other, before-total, Goes}
-use Rattle.host.proofs.Outcomes.{after-call, accepted, sound-is-kept, sized-is-kept, last-rises, last-is, same-host, held-is, due-in}
 use Rattle.schedule.specs.declared.Schedule.{Schedule}
 use Rattle.engine.specs.declared.Delivery.{Delivery}
 use Rattle.engine.specs.declared.Log.{Log}
 use Rattle.engine.specs.declared.Station.{Station}
-use Rattle.engine.specs.Parts.{noDelivery, listOf, logOf, order}
-use Rattle.engine.specs.Run.{delivered, delivery, ticked}
+use Rattle.engine.specs.Parts.{listOf, logOf, order}
+use Rattle.engine.specs.Run.{delivered}
 use Rattle.engine.specs.Inside.{Room}
-use Rattle.engine.proofs.Logs.{length-map, due-then}
+use Rattle.engine.proofs.Logs.{length-map}
 
 -- the orders that a station has delivered, and these with those that it holds
 abbrev pub gone : Station → List Held

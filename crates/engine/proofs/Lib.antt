@@ -12,3 +12,4 @@ pub mod Plays
 pub mod Runs
 pub mod Posted
 pub mod Sends
+pub mod One

@@ -1,18 +1,14 @@
 -- The hosts at first: one is made, and the others are like it but for their numbers. Assumes nothing.
-use mathlib.Core.Path.{_≡_, refl, sym, ap, _∙_}
-use mathlib.Core.List.{List, []}
-use Prim.Native.Nat.{ℕ, _<_}
-use native.Mathlib.Omega.{arith}
+use mathlib.Core.Path.{_≡_, refl, ap, _∙_}
+use mathlib.Core.List.{List}
 use lib.ListN.{replicate}
 use Rattle.lists.specs.Lists.{listed}
-use Rattle.network.specs.Network.{n}
 use Rattle.host.specs.Make.{fresh, makeRefusal, makeHost}
 use Rattle.host.specs.declared.Host.{Host}
 use Rattle.host.proofs.Fresh.{make-runs}
 use Rattle.host.proofs.Outcomes.{accepted}
 use Rattle.schedule.specs.declared.Schedule.{Schedule}
 use Rattle.engine.specs.declared.Station.{Station}
-use Rattle.engine.specs.declared.World.{World}
 use Rattle.engine.specs.Parts.{noTick}
 use Rattle.engine.specs.Run.{opening}
 use Rattle.engine.specs.Inside.{Playable, freshStation}

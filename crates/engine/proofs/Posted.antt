@@ -2,8 +2,8 @@
 -- copies are enough, and no copy under way is lost by another. Assumes nothing.
 use mathlib.Core.Path.{_≡_, refl, sym, ap, _∙_}
 use mathlib.Core.Logic.{_⊎_, inl, inr}
-use mathlib.Core.Bool.{Bool, true, false, cond, _&&_, false≢true}
-use mathlib.Core.List.{List, _++_}
+use mathlib.Core.Bool.{Bool, true, false, cond, false≢true}
+use mathlib.Core.List.{List}
 use Prim.Native.Nat.{ℕ, zero, suc, _%_, _≤_, _<_}
 use native.Mathlib.Nat.{not-suc-le-zero}
 use native.Mathlib.Omega.{arith}
@@ -13,7 +13,7 @@ use lib.ListN.{length, getD, set, length-set}
 use lib.Seq.{getD-set-same, getD-set-other}
 use Rattle.lists.specs.Lists.{any}
 use Rattle.lists.specs.Members.{In}
-use Rattle.lists.proofs.Bools.{and-right, or-cases}
+use Rattle.lists.proofs.Bools.{or-cases}
 use Rattle.lists.proofs.Listed.{none-member}
 use Rattle.clock.specs.declared.Tick.{Tick}
 use Rattle.network.specs.Network.{m, link, has}
@@ -28,7 +28,6 @@ use Rattle.schedule.specs.declared.Schedule.{Schedule}
 use Rattle.engine.specs.declared.Station.{Station}
 use Rattle.engine.specs.declared.Post.{Post}
 use Rattle.engine.specs.declared.World.{World}
-use Rattle.engine.specs.Turns.{inTurn}
 use Rattle.engine.specs.Parts.{noTick, noStation, later, order, copyFrom, startOf, linkOf, sender}
 use Rattle.engine.specs.Run.{delay, sent, sendOne, send, station, become}
 use Rattle.engine.specs.Inside.{Playable}

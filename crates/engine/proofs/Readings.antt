@@ -1,7 +1,6 @@
 -- No clock passes the largest reading within a run. Assumes nothing.
 use mathlib.Core.Path.{_≡_, ap, _∙_}
 use Prim.Native.Nat.{ℕ, _+_, _≤_}
-use native.Mathlib.Omega.{arith}
 use borrow.Author.Tests.{le-leb}
 use Rattle.clock.specs.Clock.{largestReading, reading, shown}
 use Rattle.clock.specs.declared.Reading.{Reading}

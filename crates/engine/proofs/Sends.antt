@@ -2,12 +2,11 @@
 use mathlib.Core.Path.{_≡_, refl, sym, ap, subst, _∙_}
 use mathlib.Core.Logic.{_⊎_, inl, inr}
 use mathlib.Core.Bool.{Bool, true, false, cond, _&&_, not, false≢true}
-use mathlib.Core.List.{List, _++_}
 use Prim.Native.Nat.{ℕ, zero, suc, _+_, _*_, _%_, _≤_, _<_}
 use native.Mathlib.Omega.{arith}
 use borrow.Author.Tests.{eqb-true}
 use lib.Dec.{ltb, eqb}
-use lib.ListN.{length, getD, replicate, length-replicate}
+use lib.ListN.{getD, length-replicate}
 use Rattle.lists.specs.Lists.{insert}
 use Rattle.lists.specs.Members.{In}
 use Rattle.lists.proofs.Bools.{and-left, and-right}
@@ -21,14 +20,13 @@ use Rattle.network.specs.declared.Plan.{Plan}
 use Rattle.network.proofs.Bits.{has-none}
 use Rattle.host.specs.Answers.{Said, saidBy}
 use Rattle.host.specs.Make.{cleared}
-use Rattle.host.specs.OwnLinks.{setOf, ends, endsBut}
+use Rattle.host.specs.OwnLinks.{ends, endsBut}
 use Rattle.host.specs.Start as starts
 use Rattle.host.specs.Receive.{relayLinks, relayHop}
 use Rattle.host.specs.State.{heldOf, before}
 use Rattle.host.specs.Calls.{Call, refusal, becomes, after}
 use Rattle.host.specs.Calls as calls
 use Rattle.host.specs.declared.Held.{Held}
-use Rattle.host.specs.declared.Host.{Host}
 use Rattle.host.proofs.Fresh.{cleared-link}
 use Rattle.host.proofs.Outcomes.{held-is}
 use Rattle.host.proofs.Sets.{set-has}

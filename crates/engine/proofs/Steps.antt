@@ -3,7 +3,7 @@ use mathlib.Core.Path.{_≡_, refl, sym, ap, _∙_}
 use mathlib.Core.Logic.{_⊎_, inl, inr}
 use mathlib.Core.Bool.{Bool, true, false, cond}
 use mathlib.Core.List.{List, [], _∷_, _++_, map, append-assoc, append-nil}
-use Prim.Native.Nat.{ℕ, _+_, _*_, _≤_, _<_}
+use Prim.Native.Nat.{ℕ, _+_, _≤_, _<_}
 use native.Mathlib.Omega.{arith}
 use borrow.Author.Tests.{eqb-true}
 use lib.Dec.{eqb}
@@ -18,12 +18,12 @@ use Rattle.orders.specs.declared.Order.{Order}
 use Rattle.host.specs.State.{heldOf, sameName, before}
 use Rattle.host.specs.Start.{startOf, startHost}
 use Rattle.host.specs.Receive.{receiveHost}
-use Rattle.host.specs.Tick.{dueOf, waitingOf, tickHost}
+use Rattle.host.specs.Tick.{dueOf, waitingOf}
 use Rattle.host.specs.Calls.{Call, refusal, becomes, after}
 use Rattle.host.specs.Calls as calls
 use Rattle.host.specs.declared.Held.{Held}
 use Rattle.host.specs.declared.Host.{Host}
-use Rattle.host.proofs.Facts.{SoundIs, sound-is, start-is, receive-is, tick-is}
+use Rattle.host.proofs.Facts.{SoundIs, start-is, receive-is, tick-is}
 use Rattle.host.proofs.Keeps.{new-name, new-start}
 use Rattle.host.proofs.Outcomes.{accepted, sound-is-kept, sized-is-kept, last-rises, last-is, same-host, held-is, due-in}
 use Rattle.schedule.specs.declared.Schedule.{Schedule}
@@ -43,7 +43,7 @@ bound-some h s =
     let sum = s .formula in
     omega arith
 
-map-append : {A B : Type 0} (f : A → B) (l r : List A) → map f (l ++ r) ≡ map f l ++ map f r
+pub map-append : {A B : Type 0} (f : A → B) (l r : List A) → map f (l ++ r) ≡ map f l ++ map f r
 map-append f [] r = refl
 map-append {A} {B} f (x ∷ l) r = ap (λ (t : List B). f x ∷ t) (map-append f l r)
 

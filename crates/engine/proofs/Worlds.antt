@@ -1,8 +1,8 @@
 -- Every station is kept at every moment of a run; so each log has room for what is due. Assumes nothing.
 use mathlib.Core.Path.{_≡_, refl, sym, ap, _∙_}
-use mathlib.Core.Bool.{Bool, true, false, cond, _&&_}
+use mathlib.Core.Bool.{Bool, true, false, cond}
 use mathlib.Core.List.{List, [], _∷_}
-use Prim.Native.Nat.{ℕ, zero, suc, _+_, _*_, _%_, _≤_, _<_}
+use Prim.Native.Nat.{ℕ, zero, suc, _*_, _%_, _≤_, _<_}
 use native.Mathlib.Omega.{arith}
 use borrow.Author.Tests.{eqb-true, eqb-false, ltb-true, ltb-false}
 use lib.Dec.{ltb, eqb}
@@ -16,16 +16,14 @@ use Rattle.network.specs.Network.{n, link}
 use Rattle.host.specs.Make.{fresh}
 use Rattle.host.specs.Start.{startHost}
 use Rattle.host.specs.Receive.{receiveHost}
-use Rattle.host.specs.declared.Host.{Host}
 use Rattle.host.proofs.Facts.{is-sound}
-use Rattle.host.proofs.Fresh.{MakeIs, fresh-sound, fresh-sized}
+use Rattle.host.proofs.Fresh.{fresh-sound, fresh-sized}
 use Rattle.schedule.specs.declared.Schedule.{Schedule}
-use Rattle.engine.specs.declared.Log.{Log}
 use Rattle.engine.specs.declared.Station.{Station}
 use Rattle.engine.specs.declared.World.{World}
 use Rattle.engine.specs.Turns.{inTurn}
 use Rattle.engine.specs.Parts.{logOf, noStation, clock, start, order, startOf, linkOf, receiver}
-use Rattle.engine.specs.Run.{ticked, tickOne, tickAll, station, hand, arrives, arriveOne, tell, startOne, arrived, started, play, opening, world}
+use Rattle.engine.specs.Run.{ticked, tickOne, tickAll, station, hand, arrives, arriveOne, tell, startOne, arrived, play, opening, world}
 use Rattle.engine.specs.Inside.{Playable, Room}
 use Rattle.engine.proofs.Turns.{keeps}
 use Rattle.engine.proofs.Kept.{Kept, room-kept, count-kept}

@@ -9,7 +9,6 @@ use Rattle.host.specs.Tick.{dueOf}
 use Rattle.host.specs.declared.Host.{Host}
 use Rattle.schedule.specs.declared.Schedule.{Schedule}
 use Rattle.engine.specs.declared.Outcome.{Outcome}
-use Rattle.engine.specs.declared.Log.{Log}
 use Rattle.engine.specs.declared.Station.{Station}
 use Rattle.engine.specs.Parts.{noLog, listOf, logOf, start}
 

@@ -17,7 +17,7 @@ ghost use Prim.Native.Nat.{_+_, _≤_};
 ghost use lib.ListN.{getD};
 ghost use Rattle.lists.specs.Lists.{listed};
 ghost use Rattle.engine.specs.Parts.{noStation};
-ghost use Rattle.engine.specs.Run.{world, play, outcome, outcomeAt};
+ghost use Rattle.engine.specs.Run.{world, outcome, outcomeAt};
 ghost use Rattle.engine.specs.Inside.{Playable};
 
 // The run of a schedule, to its end.

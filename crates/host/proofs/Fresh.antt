@@ -13,6 +13,7 @@ use Rattle.lists.proofs.TestLaws.{first-join, none-pass, pass-none}
 use Rattle.lists.proofs.SearchLaws.{some-same}
 use Rattle.lists.proofs.Places.{getD-pad, drop-pad}
 use Rattle.orders.specs.Rules.{isRules}
+use Rattle.network.specs.Network.{noLink}
 use Rattle.network.specs.Network as net
 use Rattle.network.specs.declared.Link.{Link}
 use Rattle.network.specs.declared.Plan.{Plan}
@@ -22,7 +23,7 @@ use Rattle.network.specs.declared.Planned.the-variants.{Accepted}
 use Rattle.network.proofs.Answers.{fine}
 use Rattle.network.proofs.Limits.{d-low, d-high}
 use Rattle.host.specs.declared.Host.{Host}
-use Rattle.host.specs.State.{noLink, isNoLink, linksOf, sound, Sized}
+use Rattle.host.specs.State.{isNoLink, linksOf, sound, Sized}
 use Rattle.host.specs.Answers.{unless}
 use Rattle.host.specs.Make.{makeTests, makeRefusal, cleared, fresh, noHost, makeHost}
 use Rattle.host.proofs.Facts.{SoundIs, is-sound}

@@ -6,10 +6,10 @@ use lib.Dec.{leb}
 use Rattle.lists.specs.Tests.{firstOf}
 use Rattle.lists.specs.Lists.{pad}
 use Rattle.orders.specs.Rules.{isRules}
-use Rattle.network.specs.Network.{n, m, π, L, δ, ε, worst, bound, planTests}
+use Rattle.network.specs.Network.{noLink, n, m, π, L, δ, ε, worst, bound, planTests}
 use Rattle.network.specs.declared.Plan.{Plan}
 use Rattle.host.specs.declared.Host.{Host}
-use Rattle.host.specs.State.{noReading, noLink, noHeld, linksOf}
+use Rattle.host.specs.State.{noReading, noHeld, linksOf}
 use Rattle.host.specs.Answers.{unless}
 
 unfoldable pub makeTests : Plan → ℕ → ℕ → List (ℕ × Bool)

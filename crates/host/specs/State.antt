@@ -22,9 +22,6 @@ use Rattle.host.specs.declared.Host.{Host}
 abbrev pub noReading : Reading
 noReading = record { 0 = 0 }
 
-abbrev pub noLink : Link
-noLink = record { a = 0; b = 0 }
-
 abbrev pub noHeld : Held
 noHeld = record { stamp = noReading; source = 0; order = Publish 0 0 }
 

@@ -9,7 +9,6 @@ use network::Bounds;
 use network::Link;
 use network::Plan;
 use network::Planned;
-use network::planning::plan as planned;
 use orders::is_rules;
 ghost use mathlib.Core.Path.{_≡_};
 ghost use mathlib.Core.Bool.{cond};
@@ -17,8 +16,7 @@ ghost use Prim.Native.Nat.{_≤_};
 ghost use lib.Dec.{eqb};
 ghost use lib.ListN.{take};
 ghost use Rattle.lists.specs.Lists.{pad};
-ghost use Rattle.network.specs.Network.{m, worst, bounds, planRefusal};
-ghost use Rattle.host.specs.State.{noLink};
+ghost use Rattle.network.specs.Network.{noLink, m, worst, bounds, planRefusal};
 ghost use Rattle.host.specs.Answers.{number, refusalOf};
 ghost use Rattle.host.specs.Make.{unstarted, cleared, noHost, makeRefusal, makeHost};
 

@@ -6,7 +6,7 @@ use Prim.Native.Nat.{ℕ, zero, suc, _+_, _-_, _≤_, _<_}
 use native.Mathlib.Numerals.{add-one}
 use native.Mathlib.Omega.{arith}
 use lib.ListN.{length, take, drop, getD, set, replicate, drop-of-length-le, length-append, length-drop, length-set, take-append-drop, replicate-append-replicate, length-replicate}
-use lib.Seq.{drop-cons, take-suc, append-snoc, length-take-le, take-append-le, drop-append-le, drop-append-add, take-append-add, take-at, take-all, set-at, take-suc-set, drop-set-lt, set-split, set-append-left}
+use lib.Seq.{drop-cons, append-snoc, length-take-le, take-append-le, drop-append-le, drop-append-add, take-append-add, take-at, take-all, set-at, take-suc-set, drop-set-lt, set-split, set-append-left}
 use Rattle.lists.specs.Lists.{all, insert, pad}
 use Rattle.lists.proofs.Bools.{and-left, and-right}
 
@@ -100,31 +100,6 @@ getD-pad {A} N z l i = go (N - length l) l i
 
 pub length-pad : {A : Type 0} (N : ℕ) (z : A) (l : List A) → length l ≤ N → length (pad N z l) ≡ N
 length-pad N z l h = length-append l (replicate (N - length l) z) ∙ ap (λ (k : ℕ). length l + k) (length-replicate (N - length l) z) ∙ (let whole : length l + (N - length l) ≡ N = omega arith in whole)
-
--- ---- the loop that looks for the place of x: what it passed, and x put into what is left
-
-module _ {A : Type 0} (r : A → A → Bool) (d x : A) (l : List A) (i : ℕ) (inv : insert r x l ≡ take i l ++ insert r x (drop i l)) where
-  at-place : i < length l
-      → insert r x l ≡ take i l ++ cond (r x (getD l i d)) (x ∷ drop i l) (getD l i d ∷ insert r x (drop (i + 1) l))
-  at-place h =
-      let y : A = getD l i d in
-      let D : List A = drop (suc i) l in
-      rw add-one
-      (inv
-      ∙ ap (λ (t : List A). take i l ++ insert r x t) (drop-cons l i d h)
-      ∙ ap (λ (t : List A). take i l ++ cond (r x y) (x ∷ t) (y ∷ insert r x D)) (sym (drop-cons l i d h)))
-
-  pub place-turn : i < length l → r x (getD l i d) ≡ false → insert r x l ≡ take (i + 1) l ++ insert r x (drop (i + 1) l)
-  place-turn h f =
-      (rw f at (at-place h))
-      ∙ sym (append-snoc (take i l) (getD l i d) (insert r x (drop (i + 1) l)))
-      ∙ ap (λ (t : List A). t ++ insert r x (drop (i + 1) l)) (sym (take-suc l i d h) ∙ ap (λ (k : ℕ). take k l) (sym (add-one i)))
-
-  pub place-found : i < length l → r x (getD l i d) ≡ true → insert r x l ≡ take i l ++ (x ∷ drop i l)
-  place-found h f = rw f at (at-place h)
-
-  pub place-end : length l ≤ i → insert r x l ≡ take i l ++ (x ∷ drop i l)
-  place-end h = rw (drop-of-length-le l {i = i} h) (rw (drop-of-length-le l {i = i} h) at inv)
 
 -- ---- the loop that moves what follows up by one: c, carried, goes before what is left
 

@@ -1,17 +1,15 @@
 -- What arrives was sent, and what is sent arrives, where nothing faulty is in its way. Assumes nothing.
 use mathlib.Core.Path.{_≡_, refl, sym, ap, subst, _∙_}
 use mathlib.Core.Logic.{_⊎_, inl, inr}
-use mathlib.Core.Bool.{Bool, true, false, cond, _&&_, not, false≢true}
-use mathlib.Core.List.{List, []}
+use mathlib.Core.Bool.{Bool, true, false, cond, _&&_, not}
+use mathlib.Core.List.{[]}
 use Prim.Native.Nat.{ℕ, zero, suc, _+_, _-_, _*_, _%_, _≤_, _<_}
 use native.Mathlib.Omega.{arith}
-use borrow.Author.Tests.{eqb-true, eqb-false, eq-eqb, ne-eqb, leb-true, ltb-true, ltb-false, lt-ltb, lt-leb, le-leb}
+use borrow.Author.Tests.{eqb-true, eqb-false, eq-eqb, ne-eqb, leb-true, ltb-true, lt-ltb}
 use lib.Dec.{leb, ltb, eqb}
-use lib.ListN.{getD}
 use Rattle.lists.specs.Tests.{allOf}
 use Rattle.lists.proofs.Bools.{and-left, and-right}
 use Rattle.clock.specs.declared.Tick.{Tick}
-use Rattle.orders.specs.declared.Order.{Order}
 use Rattle.network.specs.Network.{n, m, δ, link, has, survives, Survivor}
 use Rattle.network.proofs.Answers.{fine}
 use Rattle.network.proofs.Ranges.{ends}
@@ -24,24 +22,23 @@ use Rattle.host.specs.declared.Held.{Held}
 use Rattle.host.specs.declared.Host.{Host}
 use Rattle.schedule.specs.Schedule.{copyOf}
 use Rattle.schedule.specs.declared.Schedule.{Schedule}
-use Rattle.schedule.proofs.Laws.{Within, delayIn, not-lost}
+use Rattle.schedule.proofs.Laws.{Within, not-lost}
 use Rattle.diffusion.specs.Hosts as hosts
 use Rattle.diffusion.specs.Hosts.{Copy, Call, Sends, IsReceive}
 use Rattle.diffusion.specs.Run.{Story, reading, run, Some, ticked, callsAt, Sends-at, Handed-at, Joins}
 use Rattle.diffusion.specs.Ours.{ours, called, carried}
 use Rattle.diffusion.proofs.Answered.{send-is}
-use Rattle.engine.specs.declared.Station.{Station}
 use Rattle.engine.specs.declared.World.{World}
 use Rattle.engine.specs.Turns.{inTurn}
-use Rattle.engine.specs.Parts.{noTick, later, clock, start, order, startOf, linkOf, receiver, sender, copyFrom}
-use Rattle.engine.specs.Run.{delay, station, handed, hand, arrives, arriveOne, told, tell, startOne, arrived, started, play, world}
+use Rattle.engine.specs.Parts.{later, clock, start, order, startOf, linkOf, receiver, sender, copyFrom}
+use Rattle.engine.specs.Run.{delay, station, handed, hand, arrives, told, tell, arrived, started, play, world}
 use Rattle.engine.proofs.Runs.{playable}
 use Rattle.engine.proofs.Posted.{from-start, from-link, arrives-at}
 use Rattle.engine.proofs.Sends.{receiver-low, arrived-both, started-both, world-both, arrive-stays, start-stays, world-stays}
 use Rattle.played.specs.Story.{copyCall, copiesTo, startsTo, callsOf, story}
 use Rattle.played.proofs.Hosts.{after-copies, after-starts}
 use Rattle.played.proofs.Somes.{some-left, some-split, some-copy, some-start, copy-some, none-some}
-use Rattle.played.proofs.Travels.{copyAt, arrivalOf, happens, happened, first, Came, origins, hopAt}
+use Rattle.played.proofs.Travels.{copyAt, arrivalOf, happens, happened, first, origins, hopAt}
 
 -- a place, from its parts
 parts : (i : ℕ) → copyOf (startOf i) (linkOf i) (i % 2) ≡ i

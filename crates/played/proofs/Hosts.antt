@@ -2,7 +2,7 @@
 use mathlib.Core.Path.{_≡_, refl, sym, ap, _∙_}
 use mathlib.Core.Logic.{_⊎_, inl, inr}
 use mathlib.Core.Bool.{Bool, true, false, cond, _&&_}
-use mathlib.Core.List.{List, [], _∷_, _++_, append-nil}
+use mathlib.Core.List.{List, [], _∷_, _++_}
 use Prim.Native.Nat.{ℕ, zero, suc, _+_, _*_, _≤_, _<_}
 use native.Mathlib.Omega.{arith}
 use borrow.Author.Tests.{eqb-true, eqb-false, ltb-true, le-leb, ne-eqb}
@@ -13,7 +13,6 @@ use Rattle.lists.proofs.Listing.{getD-listed}
 use Rattle.clock.specs.declared.Tick.{Tick}
 use Rattle.orders.specs.declared.Order.{Order}
 use Rattle.network.specs.Network.{n, m, has}
-use Rattle.host.specs.Make.{fresh}
 use Rattle.host.specs.Tick.{tickHost}
 use Rattle.host.specs.declared.Host.{Host}
 use Rattle.schedule.specs.declared.Schedule.{Schedule}
@@ -26,14 +25,13 @@ use Rattle.diffusion.proofs.Ours.{called-after}
 use Rattle.engine.specs.declared.Station.{Station}
 use Rattle.engine.specs.declared.World.{World}
 use Rattle.engine.specs.Turns.{inTurn}
-use Rattle.engine.specs.Parts.{noTick, noStation, later, clock, start, order, startOf, linkOf, receiver, copyFrom}
+use Rattle.engine.specs.Parts.{noTick, noStation, later, clock, start, order, startOf, receiver, copyFrom}
 use Rattle.engine.specs.Run.{delay, ticked, tickOne, tickAll, station, handed, hand, arrives, arriveOne, tell, startOne, arrived, started, play, opening, world}
 use Rattle.engine.proofs.Turns.{keeps}
 use Rattle.engine.proofs.Logs.{untouched}
 use Rattle.engine.proofs.Runs.{playable}
-use Rattle.engine.proofs.Worlds.{Good}
 use Rattle.engine.proofs.Posted.{less, changed}
-use Rattle.engine.proofs.Sends.{Both, receiver-low, hand-free, arrive-both, start-both, ticked-both, arrived-both, world-both}
+use Rattle.engine.proofs.Sends.{Both, receiver-low, hand-free, arrive-both, start-both, ticked-both, world-both}
 use Rattle.played.specs.Story.{copyCall, copiesTo, startsTo, callsOf, story}
 
 -- ---- a list of calls in two parts

@@ -5,12 +5,11 @@ use mathlib.Core.List.{List, [], _∷_, _++_, map}
 use Prim.Native.Nat.{ℕ, zero, suc, _+_, _*_, _≤_, _<_}
 use native.Mathlib.Omega.{arith}
 use borrow.Author.Tests.{eqb-true, eqb-false, le-leb}
-use lib.Dec.{leb, eqb}
-use lib.ListN.{length, getD, set}
-use lib.Seq.{getD-set-same, getD-set-other}
+use lib.Dec.{eqb}
+use lib.ListN.{getD, set}
+use lib.Seq.{getD-set-other}
 use Rattle.lists.proofs.Places.{take-pad}
 use Rattle.lists.proofs.Listing.{getD-listed}
-use Rattle.clock.specs.declared.Reading.{Reading}
 use Rattle.clock.specs.declared.Tick.{Tick}
 use Rattle.network.specs.Network.{n}
 use Rattle.host.specs.declared.Held.{Held}
@@ -21,14 +20,14 @@ use Rattle.diffusion.specs.Hosts as hosts
 use Rattle.diffusion.specs.Hosts.{Carried}
 use Rattle.diffusion.specs.Run.{Story, reading, before, roomAt, delivers, log}
 use Rattle.diffusion.specs.Ours.{ours, carried}
-use Rattle.engine.specs.declared.Delivery.{Delivery}
 use Rattle.engine.specs.declared.Log.{Log}
 use Rattle.engine.specs.declared.Station.{Station}
 use Rattle.engine.specs.declared.World.{World}
 use Rattle.engine.specs.Turns.{inTurn}
 use Rattle.engine.specs.Parts.{noDelivery, listOf, logOf, noStation, clock, start, receiver}
-use Rattle.engine.specs.Run.{delivered, delivery, ticked, tickAll, station, become, hand, arrives, arriveOne, tell, startOne, arrived, started, play, opening, world}
+use Rattle.engine.specs.Run.{delivered, delivery, tickAll, station, become, hand, arrives, arriveOne, tell, startOne, arrived, play, opening, world}
 use Rattle.engine.proofs.Turns.{keeps}
+use Rattle.engine.proofs.Steps.{map-append}
 use Rattle.engine.proofs.Runs.{playable}
 use Rattle.engine.proofs.Sends.{world-both}
 use Rattle.played.specs.Reported.{lineOf}
@@ -59,9 +58,6 @@ module _ (s : Schedule) (v : Within s) where
   abbrev R : Story
   R = story s
 
-  logOfHost : ℕ → World → Log
-  logOfHost p w = station w p .log
-
   arrive-log : (t : Tick) (c p : ℕ) (w : World) → station (arriveOne s t c w) p .log ≡ station w p .log
   arrive-log t c p w = go (arrives t c w)
     where
@@ -83,10 +79,6 @@ module _ (s : Schedule) (v : Within s) where
       let copies : station (arrived s T (24 * s .«start_count») w) p .log ≡ station (tickAll s T w) p .log =
       keeps (arriveOne s T) (λ i x. station x p .log ≡ station (tickAll s T w) p .log) (24 * s .«start_count») (tickAll s T w) refl (λ i x h e. arrive-log T i p x ∙ e) in
       keeps (startOne s T) (λ i x. station x p .log ≡ station (tickAll s T w) p .log) (s .«start_count») (arrived s T (24 * s .«start_count») w) copies (λ i x h e. start-log T i p x ∙ e)
-
-  map-append : {A B : Type 0} (f : A → B) (l r : List A) → map f (l ++ r) ≡ map f l ++ map f r
-  map-append f [] r = refl
-  map-append {A} {B} f (x ∷ l) r = ap (λ (t : List B). f x ∷ t) (map-append f l r)
 
   entries : (U : ℕ) (l : List Held) → map lineOf (map (delivery (record { 0 = U })) l) ≡ map (λ x. (U, x)) (map carried l)
   entries U [] = refl

@@ -1,12 +1,11 @@
 -- Every schedule that reading accepts is a run of demand 3, and its report has demand 3's claims. Assumes nothing.
-use mathlib.Core.Path.{_≡_, refl, sym, ap, subst, _∙_}
+use mathlib.Core.Path.{_≡_, sym, ap, subst, _∙_}
 use mathlib.Core.Bool.{Bool, cond}
 use mathlib.Core.List.{List, map}
 use Prim.Native.Nat.{ℕ, _+_, _*_, _≤_, _<_}
 use native.Mathlib.Numerals.{add-one}
 use native.Mathlib.Omega.{arith}
 use borrow.Author.Tests.{eq-eqb}
-use lib.Dec.{eqb}
 use lib.ListN.{length, getD}
 use Rattle.lists.proofs.Listing.{getD-listed}
 use Rattle.network.specs.Network.{n}
@@ -17,7 +16,6 @@ use Rattle.schedule.specs.Schedule.{scheduleOf}
 use Rattle.schedule.specs.Calls.{readRefusal}
 use Rattle.schedule.specs.declared.Schedule.{Schedule}
 use Rattle.schedule.proofs.Laws.{Within, within-of}
-use Rattle.diffusion.specs.Hosts.{Carried}
 use Rattle.diffusion.specs.Run.{Premises, Claims, reading, log}
 use Rattle.diffusion.specs.Ours.{ours}
 use Rattle.diffusion.proofs.Demand3.{demand-3}

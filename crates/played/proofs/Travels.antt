@@ -1,13 +1,13 @@
 -- Where each copy under way came from. Assumes nothing.
 use mathlib.Core.Path.{_≡_, refl, sym, ap, subst, _∙_}
 use mathlib.Core.Logic.{_⊎_, inl, inr}
-use mathlib.Core.Bool.{Bool, true, false, cond, _&&_}
+use mathlib.Core.Bool.{Bool, true, false, cond}
 use mathlib.Core.List.{List, []}
-use Prim.Native.Nat.{ℕ, zero, suc, _+_, _*_, _%_, _≤_, _<_}
+use Prim.Native.Nat.{ℕ, zero, suc, _+_, _*_, _≤_, _<_}
 use native.Mathlib.Omega.{arith}
 use borrow.Author.Tests.{eqb-true, le-leb}
 use lib.Dec.{leb, eqb}
-use lib.ListN.{getD, replicate}
+use lib.ListN.{getD}
 use Rattle.clock.specs.declared.Tick.{Tick}
 use Rattle.orders.specs.declared.Order.{Order}
 use Rattle.network.specs.Network.{n, m, has}
@@ -20,21 +20,20 @@ use Rattle.host.specs.declared.Host.{Host}
 use Rattle.schedule.specs.declared.Schedule.{Schedule}
 use Rattle.schedule.proofs.Laws.{Within}
 use Rattle.diffusion.specs.Hosts as hosts
-use Rattle.diffusion.specs.Hosts.{Carried, Copy, Call, Sends}
-use Rattle.diffusion.specs.Run.{Story, reading, run, Some, before, ticked, callsAt, roomAt, Sends-at}
+use Rattle.diffusion.specs.Hosts.{Copy, Call, Sends}
+use Rattle.diffusion.specs.Run.{Story, reading, run, Some, before, ticked, callsAt, Sends-at}
 use Rattle.diffusion.specs.Ours.{ours, called, carried}
-use Rattle.diffusion.proofs.Answered.{is-sent, send-is}
-use Rattle.engine.specs.declared.Station.{Station}
+use Rattle.diffusion.proofs.Answered.{is-sent}
 use Rattle.engine.specs.declared.World.{World}
 use Rattle.engine.specs.Turns.{inTurn}
 use Rattle.engine.specs.Parts.{noTick, later, clock, start, order, startOf, linkOf, receiver, sender, copyFrom}
-use Rattle.engine.specs.Run.{delay, tickAll, station, handed, hand, arrives, arriveOne, told, tell, startOne, arrived, started, play, opening, world}
+use Rattle.engine.specs.Run.{delay, tickAll, station, handed, hand, arrives, arriveOne, told, tell, startOne, arrived, play, opening, world}
 use Rattle.engine.proofs.Turns.{keeps}
 use Rattle.engine.proofs.Runs.{playable, getD-blank}
 use Rattle.engine.proofs.Posted.{changed, from-start, from-link, from-sender}
 use Rattle.engine.proofs.Sends.{said-has, receiver-low, hand-link, tell-link, started-is, world-both}
 use Rattle.played.specs.Story.{copyCall, copiesTo, startsTo, callsOf, story}
-use Rattle.played.proofs.Hosts.{run-append, tickedHost, AfterCopies, AfterStarts, copy-step, start-step, after-copies, after-starts, same-host}
+use Rattle.played.proofs.Hosts.{tickedHost, AfterCopies, AfterStarts, copy-step, start-step, after-copies, after-starts, same-host}
 use Rattle.played.proofs.Somes.{some-left, some-right, copy-some, start-some}
 
 -- the hop that a start sends

@@ -6,7 +6,6 @@ use lib.Dec.{leb}
 use lib.ListN.{getD}
 use Rattle.lists.specs.Lists.{keep}
 use Rattle.network.specs.Network.{n, Survivor}
-use Rattle.schedule.specs.Schedule.{scheduleOf}
 use Rattle.schedule.specs.declared.Schedule.{Schedule}
 use Rattle.diffusion.specs.Hosts.{Carried}
 use Rattle.diffusion.specs.Run.{Premises, Claims, reading, log}

@@ -1,6 +1,6 @@
 -- Of each case, by its number. Assumes nothing.
 use borrow.Author.Needs.{needs}
-use mathlib.Core.Path.{_≡_, sym, ap, _∙_}
+use mathlib.Core.Path.{sym, ap}
 use lib.Dec.{eqb}
 use Rattle.schedule.specs.declared.Answer.{Answer}
 use Rattle.schedule.specs.Calls.{says}

@@ -1,6 +1,6 @@
 -- Played where reading accepts, and nothing where it does not. Assumes nothing.
 use borrow.Author.Needs.{needs}
-use mathlib.Core.Path.{_≡_, sym, ap, _∙_}
+use mathlib.Core.Path.{sym, _∙_}
 use borrow.Author.Tests.{not-true, not-false}
 use Rattle.engine.proofs.Runs.{read-playable, ran, not-run}
 use Rattle.engine.proofs.run.Statement.{statement}

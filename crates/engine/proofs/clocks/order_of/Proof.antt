@@ -1,11 +1,7 @@
-use mathlib.Core.Path.{_≡_, ap}
 use native.Mathlib.Omega.{arith}
 use borrow.Author.Needs.{needs}
 use Rattle.engine.proofs.clocks.order_of.Statement.{statement}
 use Rattle.engine.proofs.clocks.order_of.Tie as tie
-use Rattle.engine.proofs.clocks.order_of.Reads as reads
-use Rattle.engine.proofs.clocks.order_of.Lts as lts
-use Rattle.engine.proofs.clocks.clock_of.Reads as clock-of-reads
 
 -- src/clocks.rt:39:17
 mul-start : tie.Need-mul-start

@@ -4,9 +4,6 @@ use Rattle.engine.proofs.Readings.{shows}
 use borrow.Author.Needs.{needs}
 use Rattle.engine.proofs.clocks.reading_of.Statement.{statement}
 use Rattle.engine.proofs.clocks.reading_of.Tie as tie
-use Rattle.engine.proofs.clocks.reading_of.Reads as reads
-use Rattle.engine.proofs.clocks.reading_of.Lts as lts
-use Rattle.clock.proofs.reading_at.Reads as reading-at-reads
 
 -- src/clocks.rt:27:9
 reading-at-requires : tie.Need-reading-at-requires

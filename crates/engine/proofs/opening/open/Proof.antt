@@ -1,6 +1,5 @@
 -- Fresh hosts, since planning accepts the plan. Assumes nothing.
 use borrow.Author.Needs.{needs}
-use mathlib.Core.Path.{_≡_, refl, sym, ap, _∙_}
 use Rattle.engine.proofs.Openings.{opened}
 use Rattle.engine.proofs.opening.open.Statement.{statement}
 use Rattle.engine.proofs.opening.open.Tie as tie

@@ -1,14 +1,13 @@
 -- The logs below p are there. Assumes nothing.
 use borrow.Author.Needs.{needs}
-use mathlib.Core.Path.{_≡_, refl, sym, ap, _∙_}
-use Prim.Native.Nat.{ℕ, _+_, _-_, _*_, _≤_, _<_}
+use mathlib.Core.Path.{_≡_, ap, _∙_}
+use Prim.Native.Nat.{ℕ, _-_, _≤_}
 use native.Mathlib.Omega.{arith}
 use lib.ListN.{getD, set}
 use mathlib.Core.List.{List, []}
 use Rattle.lists.specs.Lists.{pad, listed}
 use Rattle.lists.proofs.Listing.{length-listed, fill-start, fill-next}
 use Rattle.engine.specs.declared.Log.{Log}
-use Rattle.engine.specs.declared.Station.{Station}
 use Rattle.engine.specs.Parts.{logOf, noStation}
 use Rattle.engine.proofs.Turns.{full}
 use Rattle.engine.proofs.playing.logs_of.Statement.{statement}

@@ -1,5 +1,4 @@
 -- By which end the host is. Assumes nothing.
-use borrow.Author.Needs.{needs}
 use borrow.Author.Tests.{eq-eqb, ne-eqb}
 use native.Mathlib.Omega.{arith}
 use Rattle.engine.proofs.sending.direction.Statement.{statement}

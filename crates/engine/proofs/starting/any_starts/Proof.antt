@@ -1,11 +1,10 @@
 -- Found so far is the search so far. Assumes nothing.
 use borrow.Author.Needs.{needs}
-use mathlib.Core.Path.{_≡_, refl, sym, ap, _∙_}
-use Prim.Native.Nat.{ℕ, _-_, _≤_, _<_}
+use mathlib.Core.Path.{_≡_, sym, ap, _∙_}
+use Prim.Native.Nat.{ℕ, _-_, _≤_}
 use native.Mathlib.Omega.{arith}
-use lib.Dec.{ltb, eqb}
-use lib.ListN.{getD}
-use mathlib.Core.Bool.{Bool, _&&_, _||_}
+use lib.Dec.{eqb}
+use mathlib.Core.Bool.{Bool, _||_}
 use Rattle.lists.specs.Searches.{some}
 use Rattle.lists.proofs.SearchLaws.{some-start, some-more}
 use Rattle.engine.specs.Parts.{start}

@@ -1,6 +1,6 @@
 -- The number of the refusal that is there. Assumes nothing.
 use borrow.Author.Needs.{needs}
-use mathlib.Core.Path.{_≡_, refl, sym, ap, _∙_}
+use mathlib.Core.Path.{sym, ap, _∙_}
 use Rattle.host.specs.Answers.{says}
 use Rattle.host.specs.declared.SendAnswer.{SendAnswer}
 use Rattle.engine.proofs.starting.refusal_of.Statement.{statement}

@@ -1,6 +1,6 @@
 -- What the tick delivers goes to the log, which has room for it. Assumes nothing.
 use borrow.Author.Needs.{needs}
-use mathlib.Core.Path.{_≡_, refl, sym, ap, _∙_}
+use mathlib.Core.Path.{sym, ap, _∙_}
 use Rattle.host.specs.Answers.{saysTick}
 use Rattle.engine.proofs.Logs.{station-refused, room-left, station-delivered}
 use Rattle.engine.proofs.ticking.tick_one.Statement.{statement}

@@ -10,7 +10,7 @@ use native.Mathlib.Numerals.{add-one}
 use Rattle.lists.specs.Lists.{pad}
 use Rattle.lists.proofs.Places.{pad-more}
 use Rattle.network.specs.declared.Link.{Link}
-use Rattle.host.specs.State.{noLink}
+use Rattle.network.specs.Network.{noLink}
 use Rattle.host.proofs.making.first_links.Statement.{statement}
 use Rattle.host.proofs.making.first_links.Tie as tie
 

@@ -5,7 +5,8 @@ use Prim.Native.Nat.{_-_}
 use lib.ListN.{drop}
 use mathlib.Core.Bool.{_&&_}
 use Rattle.lists.specs.Lists.{all}
-use Rattle.host.specs.State.{noLink, isNoLink}
+use Rattle.network.specs.Network.{noLink}
+use Rattle.host.specs.State.{isNoLink}
 use Rattle.host.proofs.Walks.{places-turn, places-end}
 use Rattle.host.proofs.unused.links_unused.Statement.{statement}
 use Rattle.host.proofs.unused.links_unused.Tie as tie
