@@ -9,6 +9,7 @@ use network::Bounds;
 use network::Link;
 use network::Plan;
 use network::Planned;
+use network::planning::plan as planned;
 use orders::is_rules;
 ghost use mathlib.Core.Path.{_≡_};
 ghost use mathlib.Core.Bool.{cond};

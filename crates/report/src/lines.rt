@@ -7,6 +7,7 @@ ghost use lib.Dec.{eqb};
 ghost use Rattle.schedule.specs.Calls.{says};
 ghost use Rattle.engine.specs.Inside.{InPlaces};
 ghost use Rattle.report.specs.Text.{item, orderText, heldText, deliveryLine, startLine, outcomeText, refusedText};
+ghost use Rattle.report.specs.Text.{text as textOf};
 ghost use Rattle.report.specs.Inside.{Wrote, limit};
 use crate::runs;
 use crate::writers;
