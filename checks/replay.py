@@ -5,7 +5,7 @@
 """
 import sys
 
-from schedule import read
+from schedule_reading import read
 
 NAMES = {1: "publish", 2: "halt", 3: "resume", 4: "withdraw"}
 
