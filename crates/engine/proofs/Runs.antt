@@ -29,7 +29,6 @@ playable s w =
     let r = plan-ranges s w in
     record {
       planned = w .clear;
-      bounded = w .bounds-are;
       ends = any-ends s w;
       n-some = let two = r .hosts-low in omega arith;
       n-most = r .hosts-high;

@@ -3,7 +3,7 @@ use mathlib.Core.Path.{_≡_}
 use mathlib.Core.List.{[]}
 use Prim.Native.Nat.{ℕ, _+_, _≤_, _<_}
 use lib.ListN.{length, getD}
-use Rattle.network.specs.Network.{n, m, link, planRefusal, worst, bounds}
+use Rattle.network.specs.Network.{n, m, link, planRefusal}
 use Rattle.clock.specs.declared.Reading.{Reading}
 use Rattle.host.specs.Tick.{dueOf}
 use Rattle.host.specs.declared.Host.{Host}
@@ -21,7 +21,6 @@ pub record InPlaces (o : Outcome) : Type 0 where
 -- a schedule whose numbers are those that can be played
 pub record Playable (s : Schedule) : Type 0 where
   pub planned : planRefusal (s .plan) ≡ 0
-  pub bounded : s .bounds ≡ bounds (s .plan) (worst (s .plan))
   pub ends : (i : ℕ) → (link (s .plan) i .a < 8) × (link (s .plan) i .b < 8)
   pub n-some : 0 < n (s .plan)
   pub n-most : n (s .plan) ≤ 8

@@ -31,7 +31,7 @@ use Rattle.diffusion.proofs.Answered.{send-is}
 use Rattle.engine.specs.declared.World.{World}
 use Rattle.engine.specs.Turns.{inTurn}
 use Rattle.engine.specs.Parts.{later, clock, start, order, startOf, linkOf, receiver, sender, copyFrom}
-use Rattle.engine.specs.Run.{delay, station, handed, hand, arrives, told, tell, arrived, started, play, world}
+use Rattle.engine.specs.Run.{delay, tickAll, station, handed, hand, arrives, arriveOne, told, tell, startOne, arrived, started, play, world}
 use Rattle.engine.proofs.Runs.{playable}
 use Rattle.engine.proofs.Posted.{from-start, from-link, arrives-at}
 use Rattle.engine.proofs.Sends.{receiver-low, arrived-both, started-both, world-both, arrive-stays, start-stays, world-stays}
@@ -114,6 +114,17 @@ module _ (s : Schedule) (v : Within s) where
           (sender (s .plan) i, came .when, joins, omega (arith, value, sum, least), omega (arith, value, sum, most), sent)
 
 -- ---- what is sent arrives
+
+-- a value that no turn changes while Q holds of it is after k turns more what it was
+stays-on : {A B : Type 0} (f : ℕ → A → A) (value : A → B) (Q : B → Type 0) (a : A) (c k : ℕ)
+    → ((i : ℕ) → i < c + k → Q (value (inTurn i f a)) → value (f i (inTurn i f a)) ≡ value (inTurn i f a))
+    → Q (value (inTurn c f a)) → value (inTurn (c + k) f a) ≡ value (inTurn c f a)
+unfolding inTurn
+stays-on f value Q a c zero step q = let same : c + 0 ≡ c = omega arith in ap (λ (j : ℕ). value (inTurn j f a)) same
+stays-on f value Q a c (suc k) step q =
+    let same : c + suc k ≡ suc (c + k) = omega arith in
+    let old : value (inTurn (c + k) f a) ≡ value (inTurn c f a) = stays-on f value Q a c k (λ i h. step i (omega arith)) q in
+    ap (λ (j : ℕ). value (inTurn j f a)) same ∙ step (c + k) (omega arith) (subst Q (sym old) q) ∙ old
 
 -- a link that survives
 surviving : (s : Schedule) (k : ℕ) → has (s .faults .links) k ≡ false → has (s .faults .hosts) (link (s .plan) k .a) ≡ false → has (s .faults .hosts) (link (s .plan) k .b) ≡ false
@@ -218,26 +229,14 @@ module _ (s : Schedule) (v : Within s) where
 
     -- a place that is not free keeps its tick over the copies and the starts that follow
     copies-stay : (c k i : ℕ) → c + k ≤ 24 * s .«start_count» → (arrivalOf s v i (arrived s T c w) .0 ≡ 0 → ⊥) → arrivalOf s v i (arrived s T (c + k) w) ≡ arrivalOf s v i (arrived s T c w)
-    unfolding inTurn
-    copies-stay c zero i few f = let same : c + 0 ≡ c = omega arith in ap (λ (j : ℕ). arrivalOf s v i (arrived s T j w)) same
-    copies-stay c (suc k) i few f =
-        let same : c + suc k ≡ suc (c + k) = omega arith in
-        let x = arrived s T (c + k) w in
-        let old : arrivalOf s v i x ≡ arrivalOf s v i (arrived s T c w) = copies-stay c k i (omega arith) f in
-        let b = arrived-both s v T (c + k) w (omega arith) (world-both s v t) in
-        let one = arrive-stays s v T (c + k) x x (omega arith) (b, λ j g. refl) .1 i (λ e. f (ap (λ (y : Tick). y .0) (sym old) ∙ e)) in
-        ap (λ (j : ℕ). arrivalOf s v i (arrived s T j w)) same ∙ one ∙ old
+    copies-stay c k i few f =
+        stays-on (arriveOne s T) (arrivalOf s v i) (λ (y : Tick). y .0 ≡ 0 → ⊥) (tickAll s T w) c k
+        (λ j h g. let x = arrived s T j w in arrive-stays s v T j x x (omega arith) (arrived-both s v T j w (omega arith) (world-both s v t), λ l e. refl) .1 i g) f
 
     starts-stay : (c k i : ℕ) → c + k ≤ s .«start_count» → (arrivalOf s v i (started s T c w) .0 ≡ 0 → ⊥) → arrivalOf s v i (started s T (c + k) w) ≡ arrivalOf s v i (started s T c w)
-    unfolding inTurn
-    starts-stay c zero i few f = let same : c + 0 ≡ c = omega arith in ap (λ (j : ℕ). arrivalOf s v i (started s T j w)) same
-    starts-stay c (suc k) i few f =
-        let same : c + suc k ≡ suc (c + k) = omega arith in
-        let x = started s T (c + k) w in
-        let old : arrivalOf s v i x ≡ arrivalOf s v i (started s T c w) = starts-stay c k i (omega arith) f in
-        let b = started-both s v T (c + k) w (omega arith) (world-both s v t) in
-        let one = start-stays s v T (c + k) x x (omega arith) (b, λ j g. refl) .1 i (λ e. f (ap (λ (y : Tick). y .0) (sym old) ∙ e)) in
-        ap (λ (j : ℕ). arrivalOf s v i (started s T j w)) same ∙ one ∙ old
+    starts-stay c k i few f =
+        stays-on (startOne s T) (arrivalOf s v i) (λ (y : Tick). y .0 ≡ 0 → ⊥) (arrived s T (24 * s .«start_count») w) c k
+        (λ j h g. let x = started s T j w in start-stays s v T j x x (omega arith) (started-both s v T j w (omega arith) (world-both s v t), λ l e. refl) .1 i g) f
 
     not-free : (z : ℕ) (x : World) → 0 < delay s z → arrivalOf s v z x ≡ later T (delay s z) → arrivalOf s v z x .0 ≡ 0 → ⊥
     not-free z x some e n = let value : arrivalOf s v z x .0 ≡ t + delay s z = ap (λ (y : Tick). y .0) e in omega (arith, value, n)
