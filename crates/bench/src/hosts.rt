@@ -34,7 +34,7 @@ fn with_halts(count: u64) -> Host {
     let mut h = made.host;
     let mut i: u64 = 0;
     while i < count {
-        let r = host::receive(h, Reading(1000), 1, 0, halt(1000 + i % 32));
+        let r = host::after_receive(h, Reading(1000), 1, 0, halt(1000 + i % 32));
         h = r.host;
         i += 1;
     }
@@ -73,7 +73,7 @@ fn tick(name: &[u8], h: Host, reading: u64, rounds: u64) {
     let mut out = [0u8; 512];
     io::write_all(STDOUT_FILENO, name);
     io::write_all(STDOUT_FILENO, b": delivers ");
-    let first = host::tick(h, Reading(reading), &mut out);
+    let first = host::after_tick(h, Reading(reading), &mut out);
     let told = first.answer;
     io::print_decimal(STDOUT_FILENO, delivered(told));
     let from = timing::processor_time();
@@ -90,14 +90,14 @@ fn tick(name: &[u8], h: Host, reading: u64, rounds: u64) {
 fn tick_once(h: Host, u: Reading, out: &mut [u8]) -> u64
     ensures { λ r. ⌜ r < 65537 ⌝ }
 {
-    let r = host::tick(h, u, out);
+    let r = host::after_tick(h, u, out);
     let answer = r.answer;
     delivered(answer) + r.host.last.0 % 2
 }
 
 fn start(name: &[u8], h: Host, rounds: u64) {
     io::write_all(STDOUT_FILENO, name);
-    let first = host::start(h, Reading(1000), Order::Halt(7));
+    let first = host::after_start(h, Reading(1000), Order::Halt(7));
     let told = first.answer;
     show(told);
     let from = timing::processor_time();
@@ -113,14 +113,14 @@ fn start(name: &[u8], h: Host, rounds: u64) {
 fn start_once(h: Host, u: Reading) -> u64
     ensures { λ r. ⌜ r < 65537 ⌝ }
 {
-    let r = host::start(h, u, Order::Halt(7));
+    let r = host::after_start(h, u, Order::Halt(7));
     let answer = r.answer;
     sent(answer) + r.host.last.0 % 2
 }
 
 fn receive(name: &[u8], h: Host, stamp: u64, rounds: u64) {
     io::write_all(STDOUT_FILENO, name);
-    let first = host::receive(h, Reading(1000), 1, 0, halt(stamp));
+    let first = host::after_receive(h, Reading(1000), 1, 0, halt(stamp));
     let told = first.answer;
     show(told);
     let from = timing::processor_time();
@@ -136,7 +136,7 @@ fn receive(name: &[u8], h: Host, stamp: u64, rounds: u64) {
 fn receive_once(h: Host, copy: Held) -> u64
     ensures { λ r. ⌜ r < 65537 ⌝ }
 {
-    let r = host::receive(h, Reading(1000), 1, 0, copy);
+    let r = host::after_receive(h, Reading(1000), 1, 0, copy);
     let answer = r.answer;
     sent(answer) + r.host.last.0 % 2
 }

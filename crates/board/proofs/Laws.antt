@@ -1,4 +1,4 @@
--- What callers use of a board: soundness is kept, what an order does to each image, and that the promise admits one result. Assumes nothing.
+-- What callers use of a board: soundness is kept, and what an order does to each image. Assumes nothing.
 use mathlib.Core.Path.{_≡_, refl, sym, ap, ap₂, _∙_, subst}
 use mathlib.Core.Bool.{Bool, true, false, not, cond, true≢false}
 use mathlib.Core.List.{List, [], _∷_}
@@ -10,7 +10,6 @@ use lib.Dec.{leb, eqb}
 use lib.ListN.{length, take, drop, replicate, length-take}
 use lib.Seq.{take-append-seam, drop-append-seam}
 use Rattle.lists.specs.Lists.{all, rising}
-use Rattle.lists.proofs.One.{one-result, one-answer}
 use Rattle.lists.proofs.Bools.{and-left, and-right}
 use Rattle.lists.proofs.TestLaws.{each-all, none-pass}
 use Rattle.orders.specs.declared.Order.{Order}
@@ -26,23 +25,6 @@ use Rattle.board.specs.declared.Applied.{Applied}
 use Rattle.board.specs.Board.{images, standFits, placeFits, isAbsent, isBlank, blank, before, sound, outcome, stands, settle, imagesAfter, holding, boardTests, boardRefusal, boardAfter, says}
 use Rattle.board.proofs.Boards.{sound-is}
 use Rattle.board.proofs.Settling.{settle-stands, settle-rises, settle-fit, settle-short}
-
--- ---- the promise of `apply` admits one result only
-
-answerOf : ℕ → Answer
-answerOf n = cond (eqb n 0) Done (cond (eqb n 9) Unsound OutOfRange)
-
-answerOf-says : (a : Answer) → answerOf (says a) ≡ a
-unfolding answerOf
-answerOf-says Done = refl
-answerOf-says Unsound = refl
-answerOf-says OutOfRange = refl
-
-pub apply-one : (b : Board) (o : Order) (r s : Applied)
-    → (says (r .answer) ≡ boardRefusal b o) × (r .board ≡ boardAfter b o) → (says (s .answer) ≡ boardRefusal b o) × (s .board ≡ boardAfter b o) → r ≡ s
-apply-one b o r s x y =
-    ap₂ (λ (c : Board) (a : Answer). record { board = c; answer = a }) (one-result (x .1) (y .1))
-    (one-answer says answerOf answerOf-says (r .answer) (s .answer) (x .0) (y .0))
 
 -- ---- what an order does to each image
 

@@ -5,4 +5,5 @@ mod Boards
 mod Makings
 mod Settling
 pub mod Laws
+pub mod One
 pub mod Stands

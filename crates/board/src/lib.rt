@@ -1,8 +1,10 @@
-// The release board: which images are offered or halted, and what an order makes of it.
+// The release board: which images are offered or halted, and what an order makes of it, by value and over a lent board.
+mod lent;
 mod places;
 mod sound;
 mod table;
 
+pub use lent::apply;
 use orders::Order;
 use places::here;
 use places::made;
@@ -43,8 +45,8 @@ pub struct Applied {
 }
 
 // What an order makes of a board; refused 9 or 23, in that order, and then the board as it was.
-pub fn apply(board: Board, order: Order) -> Applied
-    ensures { λ r. ⌜ (says (r .answer) ≡ boardRefusal board order) × (r .board ≡ boardAfter board order) ⌝ }
+pub fn after_order(board: Board, order: Order) -> Applied
+    ensures { λ r. ⌜ (r .board ≡ boardAfter board order) × (says (r .answer) ≡ boardRefusal board order) ⌝ }
 {
     if !is_sound(board) {
         return Applied {

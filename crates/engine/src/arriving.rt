@@ -66,7 +66,7 @@ fn arrive(s: Schedule, t: Tick, c: usize, w: World) -> World
     let station = stations[at];
     let before = station.host;
     let log = station.log;
-    let acted = host::receive(
+    let acted = host::after_receive(
         before,
         clock_of(s, t, q),
         (c % 24 / 2) as u8,

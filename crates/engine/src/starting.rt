@@ -71,7 +71,7 @@ fn tell_host(s: Schedule, t: Tick, k: usize, p: u8, order: Order, w: World) -> W
     let station = stations[at];
     let before = station.host;
     let log = station.log;
-    let acted = host::start(before, clock_of(s, t, p), order);
+    let acted = host::after_start(before, clock_of(s, t, p), order);
     let host = acted.host;
     let answer = acted.answer;
     stations[at] = Station { host, log };

@@ -40,7 +40,7 @@ fn tick_one(station: Station, u: Reading) -> Station
     let before = station.host;
     let log = station.log;
     let history = before.history;
-    let after = host::tick(before, u, &mut out);
+    let after = host::after_tick(before, u, &mut out);
     let host = after.host;
     let answer = after.answer;
     match answer {

@@ -58,35 +58,26 @@ tick-refused r k count e = rw (← e, not-none r)
 
 -- ---- the answer that says this
 
-verdictBy : ℕ → Verdict
+pub verdictBy : ℕ → Verdict
 verdictBy k = cond (eqb k 0) verdict.Clear (verdict.Refused (refusal k))
 
-verdict-back : (v : Verdict) → verdictBy (refusalOf v) ≡ v
+pub verdict-back : (v : Verdict) → verdictBy (refusalOf v) ≡ v
 unfolding verdictBy
 verdict-back verdict.Clear = refl
 verdict-back (verdict.Refused r) = simp (not-none r, back r .0)
 
-pub verdict-one : (v w : Verdict) → refusalOf v ≡ refusalOf w → v ≡ w
-verdict-one v w e = sym (verdict-back v) ∙ ap verdictBy e ∙ verdict-back w
-
-sendBy : Said → SendAnswer
+pub sendBy : Said → SendAnswer
 sendBy s = cond (eqb (s .refusal) 0) (send.Sent (s .links) (s .hop)) (send.Refused (refusal (s .refusal)))
 
-send-back : (a : SendAnswer) → sendBy (says a) ≡ a
+pub send-back : (a : SendAnswer) → sendBy (says a) ≡ a
 unfolding sendBy
 send-back (send.Sent links hop) = refl
 send-back (send.Refused r) = simp (not-none r, back r .0)
 
-pub says-one : (a b : SendAnswer) → says a ≡ says b → a ≡ b
-says-one a b e = sym (send-back a) ∙ ap sendBy e ∙ send-back b
-
-tickBy : SaidTick → TickAnswer
+pub tickBy : SaidTick → TickAnswer
 tickBy s = cond (eqb (s .refusal) 0) (tick.Delivered (s .count)) (tick.Refused (refusal (s .refusal)))
 
-tick-back : (a : TickAnswer) → tickBy (saysTick a) ≡ a
+pub tick-back : (a : TickAnswer) → tickBy (saysTick a) ≡ a
 unfolding tickBy
 tick-back (tick.Delivered count) = refl
 tick-back (tick.Refused r) = simp (not-none r, back r .0)
-
-pub tick-one : (a b : TickAnswer) → saysTick a ≡ saysTick b → a ≡ b
-tick-one a b e = sym (tick-back a) ∙ ap tickBy e ∙ tick-back b

@@ -1,9 +1,10 @@
--- The promise of each public function admits one result only. Assumes nothing.
-use mathlib.Core.Path.{_≡_, sym, ap₂, _∙_}
+-- The promise of each public function admits one result only: the answer, the state that is left, and of a tick the lent list. Assumes nothing.
+use mathlib.Core.Path.{_≡_, ap₂}
 use mathlib.Core.Bool.{Bool}
 use mathlib.Core.List.{List}
 use Prim.Native.Nat.{ℕ}
 use lib.ListN.{length}
+use Rattle.lists.proofs.One.{one-result, one-call}
 use Rattle.clock.specs.declared.Reading.{Reading}
 use Rattle.orders.specs.declared.Order.{Order}
 use Rattle.network.specs.declared.Plan.{Plan}
@@ -17,41 +18,62 @@ use Rattle.host.specs.declared.Verdict.{Verdict}
 use Rattle.host.specs.declared.SendAnswer.{SendAnswer}
 use Rattle.host.specs.declared.TickAnswer.{TickAnswer}
 use Rattle.host.specs.State.{sound}
-use Rattle.host.specs.Answers.{number, refusalOf, Said, says, saysTick}
+use Rattle.host.specs.Answers.{number, refusalOf, says, saysTick}
 use Rattle.host.specs.Make.{makeRefusal, makeHost}
 use Rattle.host.specs.Start.{startSays, startHost}
 use Rattle.host.specs.Receive.{receiveSays, receiveHost}
 use Rattle.host.specs.Tick.{tickSays, tickHost, tickList}
-use Rattle.host.proofs.Numbers.{verdict-one, says-one, tick-one}
+use Rattle.host.proofs.Numbers.{verdictBy, verdict-back, sendBy, send-back, tickBy, tick-back}
 
-pub one-is-sound : (h : Host) (r s : Bool) → r ≡ sound h → s ≡ sound h → r ≡ s
-one-is-sound h r s x y = x ∙ sym y
+pub is-sound-one : (h : Host) (r s : Bool) → r ≡ sound h → s ≡ sound h → r ≡ s
+is-sound-one h r s = one-result
 
-pub one-number-of : (r : Refusal) (m n : ℕ) → m ≡ number r → n ≡ number r → m ≡ n
-one-number-of r m n x y = x ∙ sym y
+pub number-of-one : (r : Refusal) (m n : ℕ) → m ≡ number r → n ≡ number r → m ≡ n
+number-of-one r m n = one-result
 
-pub one-make : (p : Plan) (rules own : ℕ) (r s : Made)
+pub make-one : (p : Plan) (rules own : ℕ) (r s : Made)
     → (r .host ≡ makeHost p rules own) × (refusalOf (r .answer) ≡ makeRefusal p rules own)
     → (s .host ≡ makeHost p rules own) × (refusalOf (s .answer) ≡ makeRefusal p rules own) → r ≡ s
-one-make p rules own r s x y = ap₂ (λ (h : Host) (a : Verdict). record { host = h; answer = a }) (x .0 ∙ sym (y .0)) (verdict-one (r .answer) (s .answer) (x .1 ∙ sym (y .1)))
+make-one p rules own r s x y =
+    let e = one-call refusalOf verdictBy verdict-back (r .host) (s .host) (r .answer) (s .answer) x y in
+    ap₂ (λ (h : Host) (a : Verdict). record { host = h; answer = a }) (e .0) (e .1)
 
--- a start or a receive: the state and what the answer says are given
-acted : (h : Host) (a : Said) (r s : Acted) → (r .host ≡ h) × (says (r .answer) ≡ a) → (s .host ≡ h) × (says (s .answer) ≡ a) → r ≡ s
-acted h a r s x y = ap₂ (λ (g : Host) (b : SendAnswer). record { host = g; answer = b }) (x .0 ∙ sym (y .0)) (says-one (r .answer) (s .answer) (x .1 ∙ sym (y .1)))
+-- ---- over a lent state, g and k at exit
 
-pub one-start : (h : Host) (u : Reading) (o : Order) (r s : Acted)
+pub start-one : (h : Host) (u : Reading) (o : Order) (g k : Host) (r s : SendAnswer)
+    → (g ≡ startHost h u o) × (says r ≡ startSays h (u .0) o)
+    → (k ≡ startHost h u o) × (says s ≡ startSays h (u .0) o) → (g ≡ k) × (r ≡ s)
+start-one h u o = one-call says sendBy send-back
+
+pub receive-one : (h : Host) (u : Reading) (arrival hop : ℕ) (x : Held) (g k : Host) (r s : SendAnswer)
+    → (g ≡ receiveHost h u arrival hop x) × (says r ≡ receiveSays h (u .0) arrival hop x)
+    → (k ≡ receiveHost h u arrival hop x) × (says s ≡ receiveSays h (u .0) arrival hop x) → (g ≡ k) × (r ≡ s)
+receive-one h u arrival hop x = one-call says sendBy send-back
+
+-- the lent list at exit is l and m
+pub tick-one : (h : Host) (u : Reading) (out : List ℕ) (g k : Host) (r s : TickAnswer) (l m : List ℕ)
+    → (g ≡ tickHost h u (length out)) × ((saysTick r ≡ tickSays h (u .0) (length out)) × (l ≡ tickList h (u .0) out))
+    → (k ≡ tickHost h u (length out)) × ((saysTick s ≡ tickSays h (u .0) (length out)) × (m ≡ tickList h (u .0) out)) → ((g ≡ k) × (r ≡ s)) × (l ≡ m)
+tick-one h u out g k r s l m x y = (one-call saysTick tickBy tick-back g k r s (x .0, x .1 .0) (y .0, y .1 .0), one-result (x .1 .1) (y .1 .1))
+
+-- ---- by value
+
+acted : {r s : Acted} → (r .host ≡ s .host) × (r .answer ≡ s .answer) → r ≡ s
+acted e = ap₂ (λ (g : Host) (a : SendAnswer). record { host = g; answer = a }) (e .0) (e .1)
+
+pub after-start-one : (h : Host) (u : Reading) (o : Order) (r s : Acted)
     → (r .host ≡ startHost h u o) × (says (r .answer) ≡ startSays h (u .0) o)
     → (s .host ≡ startHost h u o) × (says (s .answer) ≡ startSays h (u .0) o) → r ≡ s
-one-start h u o = acted (startHost h u o) (startSays h (u .0) o)
+after-start-one h u o r s x y = acted (start-one h u o (r .host) (s .host) (r .answer) (s .answer) x y)
 
-pub one-receive : (h : Host) (u : Reading) (arrival hop : ℕ) (x : Held) (r s : Acted)
+pub after-receive-one : (h : Host) (u : Reading) (arrival hop : ℕ) (x : Held) (r s : Acted)
     → (r .host ≡ receiveHost h u arrival hop x) × (says (r .answer) ≡ receiveSays h (u .0) arrival hop x)
     → (s .host ≡ receiveHost h u arrival hop x) × (says (s .answer) ≡ receiveSays h (u .0) arrival hop x) → r ≡ s
-one-receive h u arrival hop x = acted (receiveHost h u arrival hop x) (receiveSays h (u .0) arrival hop x)
+after-receive-one h u arrival hop x r s y z = acted (receive-one h u arrival hop x (r .host) (s .host) (r .answer) (s .answer) y z)
 
--- of a tick also the lent list at exit, l and m
-pub one-tick : (h : Host) (u : Reading) (out : List ℕ) (r s : Ticked) (l m : List ℕ)
+pub after-tick-one : (h : Host) (u : Reading) (out : List ℕ) (r s : Ticked) (l m : List ℕ)
     → (r .host ≡ tickHost h u (length out)) × ((saysTick (r .answer) ≡ tickSays h (u .0) (length out)) × (l ≡ tickList h (u .0) out))
     → (s .host ≡ tickHost h u (length out)) × ((saysTick (s .answer) ≡ tickSays h (u .0) (length out)) × (m ≡ tickList h (u .0) out)) → (r ≡ s) × (l ≡ m)
-one-tick h u out r s l m x y =
-    (ap₂ (λ (g : Host) (a : TickAnswer). record { host = g; answer = a }) (x .0 ∙ sym (y .0)) (tick-one (r .answer) (s .answer) (x .1 .0 ∙ sym (y .1 .0))), x .1 .1 ∙ sym (y .1 .1))
+after-tick-one h u out r s l m x y =
+    let e = tick-one h u out (r .host) (s .host) (r .answer) (s .answer) l m x y in
+    (ap₂ (λ (g : Host) (a : TickAnswer). record { host = g; answer = a }) (e .0 .0) (e .0 .1), e .1)

@@ -1,7 +1,8 @@
-// A host: its state, and the calls that make it, start an order, receive a copy and deliver what is due, by value.
+// A host: its state, and the calls that make it, start an order, receive a copy and deliver what is due, by value and over a lent state.
 mod checks;
 mod entries;
 mod history;
+mod lent;
 mod links;
 mod making;
 mod receiving;
@@ -14,13 +15,16 @@ mod unused;
 
 pub use checks::number_of;
 use clock::Reading;
+pub use lent::receive;
+pub use lent::start;
+pub use lent::tick;
 pub use making::make;
 use network::Plan;
 use orders::Order;
-pub use receiving::receive;
+pub use receiving::after_receive;
 pub use sound::is_sound;
-pub use starting::start;
-pub use ticking::tick;
+pub use starting::after_start;
+pub use ticking::after_tick;
 
 // An order under its name, which is its stamp and its source.
 pub struct Held {

@@ -31,9 +31,8 @@ ghost use Rattle.host.specs.OwnLinks.{otherLinks};
 ghost use Rattle.host.specs.Receive.{inPlan, copyFits, early, late, relayHop, receiveRefusal, receiveSays, receiveHost};
 
 // The order is held, to be relayed on all own links but the one it came over; or the state comes back as it was.
-pub fn receive(host: Host, u: Reading, arrival: u8, hop: u8, copy: Held) -> Acted
-    ensures { λ r. ⌜ r .host ≡ receiveHost host u arrival hop copy ⌝ }
-    ensures { λ r. ⌜ says (r .answer) ≡ receiveSays host (u .0) arrival hop copy ⌝ }
+pub fn after_receive(host: Host, u: Reading, arrival: u8, hop: u8, copy: Held) -> Acted
+    ensures { λ r. ⌜ (r .host ≡ receiveHost host u arrival hop copy) × (says (r .answer) ≡ receiveSays host (u .0) arrival hop copy) ⌝ }
 {
     let found = receive_verdict(host, u, arrival, hop, copy);
     match found {

@@ -27,9 +27,8 @@ ghost use Rattle.host.specs.Answers.{refusalOf, says};
 ghost use Rattle.host.specs.Start.{startRefusal, startSays, startHost};
 
 // The order is held under the reading and the host's number, to be sent on all own links; or the state comes back as it was.
-pub fn start(host: Host, u: Reading, order: Order) -> Acted
-    ensures { λ r. ⌜ r .host ≡ startHost host u order ⌝ }
-    ensures { λ r. ⌜ says (r .answer) ≡ startSays host (u .0) order ⌝ }
+pub fn after_start(host: Host, u: Reading, order: Order) -> Acted
+    ensures { λ r. ⌜ (r .host ≡ startHost host u order) × (says (r .answer) ≡ startSays host (u .0) order) ⌝ }
 {
     let found = start_verdict(host, u, order);
     match found {

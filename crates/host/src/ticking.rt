@@ -25,10 +25,8 @@ ghost use Rattle.host.specs.Answers.{refusalOf, saysTick};
 ghost use Rattle.host.specs.Tick.{dueOf, dueIn, waitingIn, written, tickRefusal, tickSays, tickHost, tickList};
 
 // Every order that is due leaves the history for the lent list; or the state comes back as it was, and the list keeps its bytes.
-pub fn tick(host: Host, u: Reading, out: &mut [u8]) -> Ticked
-    ensures { λ r. ⌜ r .host ≡ tickHost host u (length (now (out .entry))) ⌝ }
-    ensures { λ r. ⌜ saysTick (r .answer) ≡ tickSays host (u .0) (length (now (out .entry))) ⌝ }
-    ensures { λ r. ⌜ now (out .exit) ≡ tickList host (u .0) (now (out .entry)) ⌝ }
+pub fn after_tick(host: Host, u: Reading, out: &mut [u8]) -> Ticked
+    ensures { λ r. ⌜ (r .host ≡ tickHost host u (length (now (out .entry)))) × ((saysTick (r .answer) ≡ tickSays host (u .0) (length (now (out .entry)))) × (now (out .exit) ≡ tickList host (u .0) (now (out .entry)))) ⌝ }
 {
     let found = tick_verdict(host, u, out.len());
     match found {

@@ -16,8 +16,8 @@ write-all-requires c κs = search needs
 halt-requires : tie.Need-halt-requires Inv-loop μ-loop
 halt-requires c κs = search needs
 
-receive-requires : tie.Need-receive-requires Inv-loop μ-loop
-receive-requires c κs = search needs
+after-receive-requires : tie.Need-after-receive-requires Inv-loop μ-loop
+after-receive-requires c κs = search needs
 
 show-requires : tie.Need-show-requires Inv-loop μ-loop
 show-requires c κs = search needs
@@ -63,7 +63,7 @@ receive-spec =
     μ-loop
     write-all-requires
     halt-requires
-    receive-requires
+    after-receive-requires
     show-requires
     processor-time-requires
     loop-holds

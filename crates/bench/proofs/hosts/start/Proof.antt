@@ -13,8 +13,8 @@ abbrev μ-loop : tie.MeasureT-loop
 write-all-requires : tie.Need-write-all-requires Inv-loop μ-loop
 write-all-requires c κs = search needs
 
-start-requires : tie.Need-start-requires Inv-loop μ-loop
-start-requires c κs = search needs
+after-start-requires : tie.Need-after-start-requires Inv-loop μ-loop
+after-start-requires c κs = search needs
 
 show-requires : tie.Need-show-requires Inv-loop μ-loop
 show-requires c κs = search needs
@@ -56,7 +56,7 @@ start-spec =
     Inv-loop
     μ-loop
     write-all-requires
-    start-requires
+    after-start-requires
     show-requires
     processor-time-requires
     loop-holds

@@ -24,8 +24,8 @@ write-all-requires-2 c κs = search needs
 slice-aggregate-tick : tie.Need-slice-aggregate-tick Inv-loop μ-loop
 slice-aggregate-tick c = search needs
 
-tick-requires : tie.Need-tick-requires Inv-loop μ-loop
-tick-requires c κs = search needs
+after-tick-requires : tie.Need-after-tick-requires Inv-loop μ-loop
+after-tick-requires c κs = search needs
 
 delivered-requires : tie.Need-delivered-requires Inv-loop μ-loop
 delivered-requires c κs = search needs
@@ -76,7 +76,7 @@ tick-spec =
     slice-aggregate-write-all
     write-all-requires-2
     slice-aggregate-tick
-    tick-requires
+    after-tick-requires
     delivered-requires
     print-decimal-requires
     processor-time-requires

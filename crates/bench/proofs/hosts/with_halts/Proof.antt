@@ -25,8 +25,8 @@ add-halt c = search needs
 halt-requires : tie.Need-halt-requires Inv-loop μ-loop
 halt-requires c κs = search needs
 
-receive-requires : tie.Need-receive-requires Inv-loop μ-loop
-receive-requires c κs = search needs
+after-receive-requires : tie.Need-after-receive-requires Inv-loop μ-loop
+after-receive-requires c κs = search needs
 
 add-i : tie.Need-add-i Inv-loop μ-loop
 add-i c = search needs
@@ -51,7 +51,7 @@ with-halts-spec =
     loop-holds
     add-halt
     halt-requires
-    receive-requires
+    after-receive-requires
     add-i
     loop-less
     loop-again

@@ -34,26 +34,26 @@ loop-less c = search needs
 loop-again : tie.Need-loop-again Inv-loop μ-loop
 loop-again c = search needs
 
-apply-requires : tie.Need-apply-requires Inv-loop μ-loop
-apply-requires c κs = search needs
+after-order-requires : tie.Need-after-order-requires Inv-loop μ-loop
+after-order-requires c κs = search needs
 
 applied-requires : tie.Need-applied-requires Inv-loop μ-loop
 applied-requires c κs = search needs
 
-apply-requires-2 : tie.Need-apply-requires-2 Inv-loop μ-loop
-apply-requires-2 c κs = search needs
+after-order-requires-2 : tie.Need-after-order-requires-2 Inv-loop μ-loop
+after-order-requires-2 c κs = search needs
 
 applied-requires-2 : tie.Need-applied-requires-2 Inv-loop μ-loop
 applied-requires-2 c κs = search needs
 
-apply-requires-3 : tie.Need-apply-requires-3 Inv-loop μ-loop
-apply-requires-3 c κs = search needs
+after-order-requires-3 : tie.Need-after-order-requires-3 Inv-loop μ-loop
+after-order-requires-3 c κs = search needs
 
 applied-requires-3 : tie.Need-applied-requires-3 Inv-loop μ-loop
 applied-requires-3 c κs = search needs
 
-apply-requires-4 : tie.Need-apply-requires-4 Inv-loop μ-loop
-apply-requires-4 c κs = search needs
+after-order-requires-4 : tie.Need-after-order-requires-4 Inv-loop μ-loop
+after-order-requires-4 c κs = search needs
 
 applied-requires-4 : tie.Need-applied-requires-4 Inv-loop μ-loop
 applied-requires-4 c κs = search needs
@@ -61,8 +61,8 @@ applied-requires-4 c κs = search needs
 after-requires-2 : tie.Need-after-requires-2 Inv-loop μ-loop
 after-requires-2 c κs = search needs
 
-apply-requires-5 : tie.Need-apply-requires-5 Inv-loop μ-loop
-apply-requires-5 c κs = search needs
+after-order-requires-5 : tie.Need-after-order-requires-5 Inv-loop μ-loop
+after-order-requires-5 c κs = search needs
 
 applied-requires-5 : tie.Need-applied-requires-5 Inv-loop μ-loop
 applied-requires-5 c κs = search needs
@@ -70,8 +70,8 @@ applied-requires-5 c κs = search needs
 after-requires-3 : tie.Need-after-requires-3 Inv-loop μ-loop
 after-requires-3 c κs = search needs
 
-apply-requires-6 : tie.Need-apply-requires-6 Inv-loop μ-loop
-apply-requires-6 c κs = search needs
+after-order-requires-6 : tie.Need-after-order-requires-6 Inv-loop μ-loop
+after-order-requires-6 c κs = search needs
 
 applied-requires-6 : tie.Need-applied-requires-6 Inv-loop μ-loop
 applied-requires-6 c κs = search needs
@@ -93,18 +93,18 @@ full-spec =
     add-i
     loop-less
     loop-again
-    apply-requires
+    after-order-requires
     applied-requires
-    apply-requires-2
+    after-order-requires-2
     applied-requires-2
-    apply-requires-3
+    after-order-requires-3
     applied-requires-3
-    apply-requires-4
+    after-order-requires-4
     applied-requires-4
     after-requires-2
-    apply-requires-5
+    after-order-requires-5
     applied-requires-5
     after-requires-3
-    apply-requires-6
+    after-order-requires-6
     applied-requires-6
     returns)

@@ -19,8 +19,8 @@ loop-holds c = search needs
 drawn-requires : tie.Need-drawn-requires Inv-loop μ-loop
 drawn-requires c κs = search needs
 
-apply-requires : tie.Need-apply-requires Inv-loop μ-loop
-apply-requires c κs = search needs
+after-order-requires : tie.Need-after-order-requires Inv-loop μ-loop
+after-order-requires c κs = search needs
 
 applied-requires : tie.Need-applied-requires Inv-loop μ-loop
 applied-requires c κs = search needs
@@ -58,7 +58,7 @@ many-spec =
     empty-requires
     loop-holds
     drawn-requires
-    apply-requires
+    after-order-requires
     applied-requires
     after-requires
     next-requires

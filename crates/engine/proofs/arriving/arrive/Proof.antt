@@ -25,8 +25,8 @@ cast-receive c = search needs
 order-of-requires : tie.Need-order-of-requires
 order-of-requires c κs = search needs
 
-receive-requires : tie.Need-receive-requires
-receive-requires c κs = search needs
+after-receive-requires : tie.Need-after-receive-requires
+after-receive-requires c κs = search needs
 
 mul-stations : tie.Need-mul-stations
 mul-stations c = search needs
@@ -42,7 +42,7 @@ send-all-requires c κs = search needs
 
 returns : tie.Need-returns
 returns c = let a = c .before .before .before .before .before .before .before .before .before .before .before .before .before .args in
-    handed-over (a .s) (a .t) (a .c) (a .w) _ _ _ _ (c .before .before .before .receive .result .answer) _ _ (c .before .before .before .before .before .before .before .before .before .before .before .before .receiver-of .ensures .0) (c .before .before .before .before .before .clock-of .ensures) (c .before .before .before .before .order-of .ensures) (c .before .before .before .receive .ensures .0) (c .before .before .before .receive .ensures .1) (c .before .links-of .ensures) (c .send-all .ensures)
+    handed-over (a .s) (a .t) (a .c) (a .w) _ _ _ _ (c .before .before .before .after-receive .result .answer) _ _ (c .before .before .before .before .before .before .before .before .before .before .before .before .receiver-of .ensures .0) (c .before .before .before .before .before .clock-of .ensures) (c .before .before .before .before .order-of .ensures) (c .before .before .before .after-receive .ensures .0) (c .before .before .before .after-receive .ensures .1) (c .before .links-of .ensures) (c .send-all .ensures)
 
 pub arrive-spec : {M : Type 1} → statement M
 arrive-spec =
@@ -55,7 +55,7 @@ arrive-spec =
     clock-of-requires
     cast-receive
     order-of-requires
-    receive-requires
+    after-receive-requires
     mul-stations
     array-set-from-stations
     links-of-requires

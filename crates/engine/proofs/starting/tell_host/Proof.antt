@@ -13,8 +13,8 @@ array-copy-out-station c = search needs
 clock-of-requires : tie.Need-clock-of-requires
 clock-of-requires c κs = search needs
 
-start-requires : tie.Need-start-requires
-start-requires c κs = search needs
+after-start-requires : tie.Need-after-start-requires
+after-start-requires c κs = search needs
 
 mul-stations : tie.Need-mul-stations
 mul-stations c = search needs
@@ -36,7 +36,7 @@ send-all-requires c κs = search needs
 
 returns : tie.Need-returns
 returns c = let a = c .before .before .before .before .before .before .before .before .before .before .before .before .args in
-    told-to (a .s) (a .t) (a .k) (a .p) (a .order) (a .w) _ _ (c .before .before .before .before .start .result .answer) _ _ _ (c .before .before .before .before .before .clock-of .ensures) (c .before .before .before .before .start .ensures .0) (c .before .before .before .before .start .ensures .1) (c .before .links-of .ensures) (c .before .before .refusal-of .ensures) (c .send-all .ensures)
+    told-to (a .s) (a .t) (a .k) (a .p) (a .order) (a .w) _ _ (c .before .before .before .before .after-start .result .answer) _ _ _ (c .before .before .before .before .before .clock-of .ensures) (c .before .before .before .before .after-start .ensures .0) (c .before .before .before .before .after-start .ensures .1) (c .before .links-of .ensures) (c .before .before .refusal-of .ensures) (c .send-all .ensures)
 
 pub tell-host-spec : {M : Type 1} → statement M
 tell-host-spec =
@@ -45,7 +45,7 @@ tell-host-spec =
     mul-station
     array-copy-out-station
     clock-of-requires
-    start-requires
+    after-start-requires
     mul-stations
     array-set-from-stations
     refusal-of-requires

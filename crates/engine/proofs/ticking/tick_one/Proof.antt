@@ -9,8 +9,8 @@ use Rattle.engine.proofs.ticking.tick_one.Tie as tie
 slice-aggregate-tick : tie.Need-slice-aggregate-tick
 slice-aggregate-tick c = search needs
 
-tick-requires : tie.Need-tick-requires
-tick-requires c κs = search needs
+after-tick-requires : tie.Need-after-tick-requires
+after-tick-requires c κs = search needs
 
 enum-told : tie.Need-enum-told
 enum-told c = search needs
@@ -19,20 +19,20 @@ enum-known-answer : tie.Need-enum-known-answer
 enum-known-answer c = search needs
 
 more-requires : tie.Need-more-requires
-more-requires c κs = let d = c .before .before .before .before .before .before .before .before .before .before in room-left (d .args .station) (d .args .u) (d .pre) _ (ap saysTick (sym (c .before .answer .given .1)) ∙ c .before .before .before .before .before .tick .ensures .1 .0)
+more-requires c κs = let d = c .before .before .before .before .before .before .before .before .before .before in room-left (d .args .station) (d .args .u) (d .pre) _ (ap saysTick (sym (c .before .answer .given .1)) ∙ c .before .before .before .before .before .after-tick .ensures .1 .0)
 
 returns : tie.Need-returns
-returns c = let d = c .before .before .before .before .before .before .before .before .before in station-refused (d .args .station) (d .args .u) (d .pre) (c .enum-told .given .0 .0) _ (ap saysTick (sym (c .enum-told .given .1)) ∙ c .before .before .before .before .tick .ensures .1 .0) (c .before .before .before .before .tick .ensures .0)
+returns c = let d = c .before .before .before .before .before .before .before .before .before in station-refused (d .args .station) (d .args .u) (d .pre) (c .enum-told .given .0 .0) _ (ap saysTick (sym (c .enum-told .given .1)) ∙ c .before .before .before .before .after-tick .ensures .1 .0) (c .before .before .before .before .after-tick .ensures .0)
 
 returns-2 : tie.Need-returns-2
-returns-2 c = let d = c .before .before .before .before .before .before .before .before .before .before .before in station-delivered (d .args .station) (d .args .u) (d .pre) _ (ap saysTick (sym (c .before .before .answer .given .1)) ∙ c .before .before .before .before .before .before .tick .ensures .1 .0) _ _ (c .before .before .before .before .before .before .tick .ensures .0) (c .more .ensures)
+returns-2 c = let d = c .before .before .before .before .before .before .before .before .before .before .before in station-delivered (d .args .station) (d .args .u) (d .pre) _ (ap saysTick (sym (c .before .before .answer .given .1)) ∙ c .before .before .before .before .before .before .after-tick .ensures .1 .0) _ _ (c .before .before .before .before .before .before .after-tick .ensures .0) (c .more .ensures)
 
 pub tick-one-spec : {M : Type 1} → statement M
 tick-one-spec =
     tie.close
     (tie.spec
     slice-aggregate-tick
-    tick-requires
+    after-tick-requires
     enum-told
     enum-known-answer
     more-requires

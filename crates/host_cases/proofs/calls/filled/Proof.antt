@@ -16,8 +16,8 @@ loop-holds c = tt
 add-t9 : tie.Need-add-t9 Inv-loop μ-loop
 add-t9 c = search needs
 
-receive-requires : tie.Need-receive-requires Inv-loop μ-loop
-receive-requires c κs = search needs
+after-receive-requires : tie.Need-after-receive-requires Inv-loop μ-loop
+after-receive-requires c κs = search needs
 
 add-i : tie.Need-add-i Inv-loop μ-loop
 add-i c = search needs
@@ -39,7 +39,7 @@ filled-spec =
     μ-loop
     loop-holds
     add-t9
-    receive-requires
+    after-receive-requires
     add-i
     loop-less
     loop-again

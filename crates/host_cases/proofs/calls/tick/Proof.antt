@@ -14,8 +14,8 @@ array-borrow-prefix-out c = search needs
 slice-aggregate-tick : tie.Need-slice-aggregate-tick
 slice-aggregate-tick c = sym (length-take-le _ (c .before .before .lent .result) (search needs))
 
-tick-requires : tie.Need-tick-requires
-tick-requires c κs = search needs
+after-tick-requires : tie.Need-after-tick-requires
+after-tick-requires c κs = search needs
 
 ticked-requires : tie.Need-ticked-requires
 ticked-requires c κs = search needs
@@ -30,6 +30,6 @@ tick-spec =
     lent-requires
     array-borrow-prefix-out
     slice-aggregate-tick
-    tick-requires
+    after-tick-requires
     ticked-requires
     returns)

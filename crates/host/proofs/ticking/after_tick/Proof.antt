@@ -5,8 +5,8 @@ use lib.ListN.{length}
 use Rattle.host.specs.Answers.{number, refusalOf}
 use Rattle.host.specs.Tick.{tickRefusal}
 use Rattle.host.proofs.Numbers.{kept, tick-refused}
-use Rattle.host.proofs.ticking.tick.Statement.{statement}
-use Rattle.host.proofs.ticking.tick.Tie as tie
+use Rattle.host.proofs.ticking.after_tick.Statement.{statement}
+use Rattle.host.proofs.ticking.after_tick.Tie as tie
 
 tick-verdict-requires : tie.Need-tick-verdict-requires
 tick-verdict-requires c κs = search needs
@@ -33,8 +33,8 @@ same-length c = search needs
 returns-2 : tie.Need-returns-2
 returns-2 c = c .before .before .tick-accepted .ensures
 
-pub tick-spec : {M : Type 1} → statement M
-tick-spec =
+pub after-tick-spec : {M : Type 1} → statement M
+after-tick-spec =
     tie.close
     (tie.spec
     tick-verdict-requires

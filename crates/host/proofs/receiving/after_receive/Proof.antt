@@ -4,8 +4,8 @@ use mathlib.Core.Path.{_≡_, sym, ap, _∙_}
 use Rattle.host.specs.Answers.{number, refusalOf}
 use Rattle.host.specs.Receive.{receiveRefusal}
 use Rattle.host.proofs.Numbers.{kept, says-refused}
-use Rattle.host.proofs.receiving.receive.Statement.{statement}
-use Rattle.host.proofs.receiving.receive.Tie as tie
+use Rattle.host.proofs.receiving.after_receive.Statement.{statement}
+use Rattle.host.proofs.receiving.after_receive.Tie as tie
 
 receive-verdict-requires : tie.Need-receive-verdict-requires
 receive-verdict-requires c κs = search needs
@@ -29,8 +29,8 @@ returns c =
 returns-2 : tie.Need-returns-2
 returns-2 c = c .receive-accepted .ensures
 
-pub receive-spec : {M : Type 1} → statement M
-receive-spec =
+pub after-receive-spec : {M : Type 1} → statement M
+after-receive-spec =
     tie.close
     (tie.spec
     receive-verdict-requires

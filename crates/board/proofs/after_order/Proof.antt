@@ -6,8 +6,8 @@ use borrow.Author.Tests.{not-true, not-false}
 use Rattle.board.specs.Board.{sound, boardTests}
 use Rattle.orders.specs.Orders.{shareFits}
 use Rattle.board.proofs.Boards.{sound-is}
-use Rattle.board.proofs.apply.Statement.{statement}
-use Rattle.board.proofs.apply.Tie as tie
+use Rattle.board.proofs.after_order.Statement.{statement}
+use Rattle.board.proofs.after_order.Tie as tie
 
 is-sound-requires : tie.Need-is-sound-requires
 is-sound-requires c κs = search needs
@@ -34,9 +34,9 @@ unfolding boardTests
 returns-3 c =
     let good : sound (c .before .before .before .before .before .args .board) ≡ true = sym (c .before .before .before .before .is-sound .ensures) ∙ not-false _ (c .before .before .before .if1 .left) in
     let fits : shareFits (c .before .before .before .before .before .args .order) ≡ true = sym (c .before .before .share-fits .ensures) ∙ not-false _ (c .before .if2 .left) in
-    simp (good, fits) (refl, c .after .ensures)
+    simp (good, fits) (c .after .ensures, refl)
 
-pub apply-spec : {M : Type 1} → statement M
-apply-spec =
+pub after-order-spec : {M : Type 1} → statement M
+after-order-spec =
     tie.close
     (tie.spec is-sound-requires returns share-fits-requires returns-2 after-requires returns-3)

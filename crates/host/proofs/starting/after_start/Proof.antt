@@ -4,8 +4,8 @@ use mathlib.Core.Path.{_≡_, sym, ap, _∙_}
 use Rattle.host.specs.Answers.{number, refusalOf}
 use Rattle.host.specs.Start.{startRefusal}
 use Rattle.host.proofs.Numbers.{kept, says-refused}
-use Rattle.host.proofs.starting.start.Statement.{statement}
-use Rattle.host.proofs.starting.start.Tie as tie
+use Rattle.host.proofs.starting.after_start.Statement.{statement}
+use Rattle.host.proofs.starting.after_start.Tie as tie
 
 start-verdict-requires : tie.Need-start-verdict-requires
 start-verdict-requires c κs = search needs
@@ -29,8 +29,8 @@ returns c =
 returns-2 : tie.Need-returns-2
 returns-2 c = c .start-accepted .ensures
 
-pub start-spec : {M : Type 1} → statement M
-start-spec =
+pub after-start-spec : {M : Type 1} → statement M
+after-start-spec =
     tie.close
     (tie.spec
     start-verdict-requires
