@@ -21,8 +21,8 @@ slice-aggregate-write-all c = search needs
 write-all-requires-2 : tie.Need-write-all-requires-2 Inv-loop μ-loop
 write-all-requires-2 c κs = search needs
 
-slice-aggregate-tick : tie.Need-slice-aggregate-tick Inv-loop μ-loop
-slice-aggregate-tick c = search needs
+slice-aggregate-after-tick : tie.Need-slice-aggregate-after-tick Inv-loop μ-loop
+slice-aggregate-after-tick c = search needs
 
 after-tick-requires : tie.Need-after-tick-requires Inv-loop μ-loop
 after-tick-requires c κs = search needs
@@ -75,7 +75,7 @@ tick-spec =
     write-all-requires
     slice-aggregate-write-all
     write-all-requires-2
-    slice-aggregate-tick
+    slice-aggregate-after-tick
     after-tick-requires
     delivered-requires
     print-decimal-requires

@@ -19,8 +19,8 @@ array-copy-out-station c = search needs
 clock-of-requires : tie.Need-clock-of-requires
 clock-of-requires c κs = search needs
 
-cast-receive : tie.Need-cast-receive
-cast-receive c = search needs
+cast-after-receive : tie.Need-cast-after-receive
+cast-after-receive c = search needs
 
 order-of-requires : tie.Need-order-of-requires
 order-of-requires c κs = search needs
@@ -53,7 +53,7 @@ arrive-spec =
     mul-station
     array-copy-out-station
     clock-of-requires
-    cast-receive
+    cast-after-receive
     order-of-requires
     after-receive-requires
     mul-stations

@@ -6,8 +6,8 @@ use Rattle.engine.proofs.Logs.{station-refused, room-left, station-deli
 use Rattle.engine.proofs.ticking.tick_one.Statement.{statement}
 use Rattle.engine.proofs.ticking.tick_one.Tie as tie
 
-slice-aggregate-tick : tie.Need-slice-aggregate-tick
-slice-aggregate-tick c = search needs
+slice-aggregate-after-tick : tie.Need-slice-aggregate-after-tick
+slice-aggregate-after-tick c = search needs
 
 after-tick-requires : tie.Need-after-tick-requires
 after-tick-requires c κs = search needs
@@ -31,7 +31,7 @@ pub tick-one-spec : {M : Type 1} → statement M
 tick-one-spec =
     tie.close
     (tie.spec
-    slice-aggregate-tick
+    slice-aggregate-after-tick
     after-tick-requires
     enum-told
     enum-known-answer

@@ -11,8 +11,8 @@ lent-requires c κs = search needs
 array-borrow-prefix-out : tie.Need-array-borrow-prefix-out
 array-borrow-prefix-out c = search needs
 
-slice-aggregate-tick : tie.Need-slice-aggregate-tick
-slice-aggregate-tick c = sym (length-take-le _ (c .before .before .lent .result) (search needs))
+slice-aggregate-after-tick : tie.Need-slice-aggregate-after-tick
+slice-aggregate-after-tick c = sym (length-take-le _ (c .before .before .lent .result) (search needs))
 
 after-tick-requires : tie.Need-after-tick-requires
 after-tick-requires c κs = search needs
@@ -29,7 +29,7 @@ tick-spec =
     (tie.spec
     lent-requires
     array-borrow-prefix-out
-    slice-aggregate-tick
+    slice-aggregate-after-tick
     after-tick-requires
     ticked-requires
     returns)
