@@ -5,6 +5,7 @@ ghost use lib.Dec.{leb};
 ghost use Rattle.clock.specs.Clock.{largestReading, largestStamp, shown, showing};
 
 // What a host's clock shows.
+#[repr(C)]
 pub struct Reading(pub u64);
 
 // Real time.

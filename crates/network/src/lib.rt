@@ -14,12 +14,14 @@ pub use rules::window;
 pub use sets::is_in;
 
 // A link joins two hosts, a < b.
+#[repr(C)]
 pub struct Link {
     pub a: u8,
     pub b: u8,
 }
 
 // The network, and what it is planned to bear. Of the 12 places the first `link_count` hold links; planning does not look at the others.
+#[repr(C)]
 pub struct Plan {
     pub hosts: u8, // n
     pub faulty_hosts: u8, // π
@@ -37,6 +39,7 @@ pub struct Faults {
 }
 
 // What a rule set promises of a network: the bound Δ on delivery, and the starting window W.
+#[repr(C)]
 pub struct Timing {
     pub bound: u64,
     pub window: u64,

@@ -1,0 +1,5 @@
+-- What the proofs of several functions use, and the laws for callers.
+mod Forms
+mod Converts
+mod Lefts
+mod Messages

@@ -1,0 +1,135 @@
+// A host's state from its flat memory, and back.
+use crate::HeldMemory;
+use crate::HostMemory;
+use crate::orders_in::is_formed;
+use crate::orders_in::order_from;
+use clock::Reading;
+use host::Held;
+use host::Host;
+use orders::Order;
+ghost use mathlib.Core.Path.{_≡_};
+ghost use Rattle.host.specs.State.{noHeld};
+ghost use Rattle.service.specs.Memory.{heldFrom, heldFits, ownFrom, hostFrom, heldMemory, hostMemory};
+ghost use Rattle.service.specs.Calls.{fits};
+
+// What memory stands for, and whether each place of its history holds an order or zeros.
+pub(crate) struct Taken {
+    pub fits: bool,
+    pub host: Host,
+}
+
+pub(crate) fn host_from(memory: HostMemory) -> Taken
+    ensures { λ r. ⌜ (r .fits ≡ fits memory) × (r .host ≡ hostFrom memory) ⌝ }
+{
+    let places = memory.history;
+    let mut history = [no_held(); 32];
+    let mut fits = true;
+    let mut i = 0;
+    while i < 32 {
+        let e = places[i];
+        history[i] = held_from(e);
+        fits = fits & held_fits(e);
+        i += 1;
+    }
+    let plan = memory.plan;
+    let last = memory.last;
+    let starts = memory.starts;
+    let host = Host {
+        plan,
+        rules: memory.rules,
+        d: memory.d,
+        bound: memory.bound,
+        own: own_from(memory.own),
+        last,
+        started: memory.started,
+        starts,
+        held: memory.held,
+        history,
+    };
+    Taken { fits, host }
+}
+
+fn no_held() -> Held
+    ensures { λ r. ⌜ r ≡ noHeld ⌝ }
+{
+    Held {
+        stamp: Reading(0),
+        source: 0,
+        order: Order::Publish { image: 0, share: 0 },
+    }
+}
+
+fn held_from(e: HeldMemory) -> Held
+    ensures { λ r. ⌜ r ≡ heldFrom e ⌝ }
+{
+    let stamp = e.stamp;
+    Held {
+        stamp,
+        source: e.source,
+        order: order_from(e.kind, e.image, e.share),
+    }
+}
+
+fn held_fits(e: HeldMemory) -> bool
+    ensures { λ r. ⌜ r ≡ heldFits e ⌝ }
+{
+    is_formed(e.kind, e.share) | ((e.kind == 0) & (e.image == 0) & (e.share == 0))
+}
+
+// A host's number, which has one byte.
+fn own_from(own: u64) -> u8
+    ensures { λ r. ⌜ r ≡ ownFrom own ⌝ }
+{
+    if own < 8 { own as u8 } else { 255 }
+}
+
+pub(crate) fn host_memory(host: Host) -> HostMemory
+    ensures { λ r. ⌜ r ≡ hostMemory host ⌝ }
+{
+    let held = host.history;
+    let mut history = [held_memory(no_held()); 32];
+    let mut i = 0;
+    while i < 32 {
+        let e = held[i];
+        history[i] = held_memory(e);
+        i += 1;
+    }
+    let plan = host.plan;
+    let last = host.last;
+    let starts = host.starts;
+    HostMemory {
+        bound: host.bound,
+        last,
+        own: host.own as u64,
+        started: host.started,
+        held: host.held,
+        starts,
+        history,
+        plan,
+        rules: host.rules,
+        d: host.d,
+    }
+}
+
+fn held_memory(x: Held) -> HeldMemory
+    ensures { λ r. ⌜ r ≡ heldMemory x ⌝ }
+{
+    let stamp = x.stamp;
+    let order = x.order;
+    if !orders::share_fits(order) {
+        return HeldMemory {
+            stamp,
+            image: 0,
+            source: x.source,
+            kind: 0,
+            share: 0,
+        };
+    }
+    HeldMemory {
+        stamp,
+        image: orders::image(order),
+        source: x.source,
+        kind: orders::kind(order),
+        share: orders::share(order) as u16,
+    }
+}

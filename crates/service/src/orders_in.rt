@@ -1,0 +1,25 @@
+// An order as it comes in: three numbers, which need not be any order's.
+use orders::Order;
+use orders::order_of;
+ghost use mathlib.Core.Path.{_≡_};
+ghost use Rattle.service.specs.Memory.{formed, orderFrom};
+
+// Whether kind and share are some order's.
+pub(crate) fn is_formed(kind: u8, share: u16) -> bool
+    ensures { λ r. ⌜ r ≡ formed kind share ⌝ }
+{
+    if kind == 1 {
+        return (1 <= share) & (share <= 100);
+    }
+    (1 <= kind) & (kind <= 4) & (share == 0)
+}
+
+// The order; where the numbers are no order's, the blank one, which every call refuses.
+pub(crate) fn order_from(kind: u8, image: u32, share: u16) -> Order
+    ensures { λ r. ⌜ r ≡ orderFrom kind image share ⌝ }
+{
+    if !is_formed(kind, share) {
+        return Order::Publish { image: 0, share: 0 };
+    }
+    order_of(kind, image, share as u8)
+}
