@@ -11,7 +11,7 @@ use Rattle.orders.specs.declared.Order.the-variants.{Halt}
 use Rattle.orders.specs.Orders.{orderBytes}
 use Rattle.network.specs.declared.Link.{Link}
 use Rattle.network.specs.declared.Plan.{Plan}
-use Rattle.network.specs.Network.{Said, planned, inRange, same, badLink, badLinks, has, survives, via, within, distance, farthest, diameter, worstLinks, worst, bound, window, planTests}
+use Rattle.network.specs.Network.{Said, planned, inRange, same, badLink, badLinks, has, survives, via, within, distance, farthest, diameter, worstLinks, worst, bound, planTests}
 use Rattle.fields.specs.Fields.{field}
 use Rattle.fields.specs.Faults.{first}
 use Rattle.message.specs.declared.Message.{Message}
@@ -22,12 +22,12 @@ use Rattle.host.specs.State.{soundTests}
 use Rattle.host.specs.Make.{fresh}
 use Rattle.host.specs.Receive.{receiveTests, receiveRefusal}
 
--- a row of the planning table: the plan, and what planning says
--- a case of receive: the rule set, the hop, the reading, and the refusal
--- a message of a rule set: its parts, and its bytes
 pub data Case : Type 0 where
+  -- a row of the planning table: the plan, and what planning says
   planning : Plan → List ℕ → Case
+  -- a case of receive: the rule set, the hop, the reading and the refusal
   receiving : ℕ → ℕ → ℕ → ℕ → Case
+  -- a message: the rule set, its parts and its bytes
   message : ℕ → Message → List ℕ → Case
 
 -- ---- "With δ = 10, ε = 3"
@@ -92,7 +92,7 @@ halt-7-bytes =
 
 -- ---- the statement
 
--- what 01 states of a case, of the definitions: a message's bytes are also read as that message
+-- the definitions give what 01 states of the case; a message's bytes are also read as that message
 abbrev pub Holds : Case → Type 0
 Holds (planning p said) = shown (planned p) ≡ said
 Holds (receiving rules hop u refused) = received rules hop u ≡ refused
@@ -114,5 +114,5 @@ cases =
     ∷ []
 
 pub all-hold : All Holds cases
-unfolding allOf anyOf some largest least has inRange same badLink badLinks survives via within distance farthest diameter worstLinks worst bound window planTests ones soundTests receiveTests layout field be valAt orderBytes first
+unfolding allOf anyOf some largest least has inRange same badLink badLinks survives via within distance farthest diameter worstLinks worst bound planTests ones soundTests receiveTests layout field be valAt orderBytes first
 all-hold = (refl, (refl, (refl, (refl, (refl, (refl, (refl, (refl, (refl, (refl, ((refl, (refl, refl)), tt)))))))))))
