@@ -1,5 +1,6 @@
 // The table of the board: each order on image 7, where it is absent, offered 30, halted 30 and halted 0.
 use crate::text;
+use board::Answer;
 use board::Board;
 use board::Place;
 use board::Stand;
@@ -35,7 +36,16 @@ fn row(order: Order) {
 fn cell(before: Board, order: Order) {
     let applied = board::apply(before, order);
     let after = applied.board;
-    let first = after.places[0];
+    let answer = applied.answer;
+    match answer {
+        Answer::Done => standing(after),
+        Answer::Unsound => text::refusal(9),
+        Answer::OutOfRange => text::refusal(23),
+    }
+}
+
+fn standing(board: Board) {
+    let first = board.places[0];
     let stand = first.stand;
     match stand {
         Stand::Absent => text::word(b"absent"),
