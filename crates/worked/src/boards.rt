@@ -34,7 +34,7 @@ fn row(order: Order) {
 
 // How image 7 stands after the order.
 fn cell(before: Board, order: Order) {
-    let applied = board::apply(before, order);
+    let applied = board::after_order(before, order);
     let after = applied.board;
     let answer = applied.answer;
     match answer {

@@ -22,7 +22,7 @@ fn case(rules: u8, hop: u8, u: u64) {
         source: 0,
         order: Order::Halt(7),
     };
-    let acted = host::receive(fresh, Reading(u), 0, hop, copy);
+    let acted = host::after_receive(fresh, Reading(u), 0, hop, copy);
     let answer = acted.answer;
     text::word(b"rules ");
     text::number(rules as u64);
