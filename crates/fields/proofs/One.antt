@@ -9,12 +9,12 @@ use Rattle.fields.specs.declared.Fault.the-variants.{CutShort, WrongTag,
 use Rattle.fields.specs.declared.Verdict.{Verdict}
 use Rattle.fields.specs.declared.Verdict.the-variants.{Right, Wrong}
 
-unfoldable named : ℕ → Verdict
+unfoldable pub named : ℕ → Verdict
 named n =
     cond (eqb n 0) Right
     (Wrong (cond (eqb n 33) CutShort (cond (eqb n 34) WrongTag (cond (eqb n 35) WrongLength (cond (eqb n 36) WrongValue LeftOver)))))
 
-named-back : (v : Verdict) → named (verdict v) ≡ v
+pub named-back : (v : Verdict) → named (verdict v) ≡ v
 unfolding named
 named-back Right = refl
 named-back (Wrong CutShort) = refl
