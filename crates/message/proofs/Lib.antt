@@ -2,5 +2,6 @@
 mod WriteLaws
 mod ReadLaws
 mod OrderLaws
+mod Kept
 pub mod RoundTrip
 pub mod One
