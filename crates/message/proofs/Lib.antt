@@ -3,5 +3,6 @@ mod WriteLaws
 mod ReadLaws
 mod OrderLaws
 mod Kept
+mod Asking
 pub mod RoundTrip
 pub mod One
