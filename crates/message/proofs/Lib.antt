@@ -2,7 +2,7 @@
 mod WriteLaws
 mod ReadLaws
 mod OrderLaws
-mod Kept
 mod Asking
+pub mod Kept
 pub mod RoundTrip
 pub mod One
