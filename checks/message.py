@@ -54,8 +54,8 @@ def readable(rules, data):
     return values
 
 
-def passed(data):
-    """What a reader answers for stamp, source and hop: each its fault or 0, its number, and the place that it comes to."""
+def passed(rules, data):
+    """What a reader answers for stamp, source and hop: each its fault or 0, its number, and the place that it comes to. Then the order's bytes."""
     at, said = 0, []
     for tag, width, least, most in (1, 8, 0, LAST_STAMP), (2, 1, 0, 7), (3, 1, 1, 8):
         head, size = data[at : at + 3], int.from_bytes(data[at + 1 : at + 3], "big")
@@ -66,6 +66,7 @@ def passed(data):
         at += 0 if fault else 3 + size
         said += [fault, 0 if fault else number, at]
     print("reader", *said)
+    print((readable(rules, data) or [b""])[-1].hex())
 
 
 def counted(name, rules, tries):
@@ -75,7 +76,7 @@ def counted(name, rules, tries):
 
 def damage(rules, *parts):
     data = written(rules, *parts)
-    passed(data)
+    passed(rules, data)
     counted("damaged", rules, [data[:i] + bytes([b]) + data[i + 1 :] for i in range(len(data)) for b in range(256)])
     counted("cut", rules, [data[:i] for i in range(len(data))])
     counted("longer", rules, [data + bytes([b]) for b in range(256)])
@@ -123,5 +124,5 @@ print("write", *(refused(*t) for t in TRIES))
 print("read", 23, 30)
 shuffle()
 RESUME = written(2, 100, 7, 8, (3, 7, 0))
-passed(RESUME[:14])
-passed(RESUME[:11] + bytes([3]) + RESUME[12:])
+passed(2, RESUME[:14])
+passed(2, RESUME[:11] + bytes([3]) + RESUME[12:])

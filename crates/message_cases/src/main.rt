@@ -54,7 +54,7 @@ fn damage(case: Case) {
         text::line(b"not written");
         return;
     };
-    places::print(sweep::first(&bytes, n));
+    places::print(case.rules, sweep::first(&bytes, n));
     let none = sweep::none();
     let one_more = std::num::wrapping_add_usize(n, 1);
     sweep::print(
@@ -143,9 +143,9 @@ fn mislead() {
     let case = made(2, 100, 7, 8, Order::Resume(7));
     let message = case.message;
     message::write(2, message, &mut bytes);
-    places::print(sweep::first(&bytes, 14));
+    places::print(2, sweep::first(&bytes, 14));
     bytes[11] = 3;
-    places::print(&bytes);
+    places::print(2, &bytes);
 }
 
 // The next number below 2^31 of a linear congruence.

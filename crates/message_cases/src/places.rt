@@ -10,14 +10,16 @@ struct Passed {
     place: usize,
 }
 
-// Stamp, source and hop, whatever the rules: each its fault or 0, its number, and the place.
-pub(crate) fn print(bytes: &[u8]) {
+// Stamp, source and hop, whatever the rules: each its fault or 0, its number, and the place. Then the order's bytes.
+pub(crate) fn print(rules: u8, bytes: &[u8]) {
     text::word(b"reader");
     let stamp = step(bytes, 0, message::STAMP);
     print_step(stamp);
     let source = step(bytes, stamp.place, message::SOURCE);
     print_step(source);
     print_step(step(bytes, source.place, message::HOP));
+    text::line(b"");
+    text::hex(order(rules, bytes));
     text::line(b"");
 }
 
@@ -53,4 +55,8 @@ fn step(bytes: &[u8], at: usize, slot: Slot) -> Passed {
         number,
         place: r.at,
     }
+}
+
+fn order(rules: u8, bytes: &[u8]) -> &[u8] {
+    message::order_bytes(message::open(bytes), rules)
 }
