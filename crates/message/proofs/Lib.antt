@@ -5,4 +5,5 @@ mod OrderLaws
 mod Asking
 pub mod Kept
 pub mod RoundTrip
+pub mod FieldByField
 pub mod One

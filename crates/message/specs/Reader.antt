@@ -30,7 +30,7 @@ nextNumber bs at s = answer (firstOf (slotChecks bs at s)) 0 (numberAt bs (at + 
 
 -- the place after that field; a field at fault is not passed
 abbrev pub nextPlace : List ℕ → ℕ → Slot → ℕ
-nextPlace bs at s = cond (eqb (firstOf (slotChecks bs at s)) 0) (at + 3 + s .width) at
+nextPlace bs at s = cond (eqb (firstOf (slotChecks bs at s)) 0) (at + (3 + s .width)) at
 
 -- the reader at the next place of the same message
 abbrev pub moved : Reader → Slot → Reader

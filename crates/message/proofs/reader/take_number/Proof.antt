@@ -2,6 +2,7 @@
 use mathlib.Core.Path.{_≡_, sym, ap, _∙_}
 use mathlib.Core.List.{List}
 use Prim.Native.Nat.{ℕ, _+_}
+use native.Mathlib.Nat.{add-assoc}
 use native.Mathlib.Omega.{arith}
 use borrow.Author.Tests.{eq-eqb, ne-eqb}
 use denote.Ref.{now}
@@ -24,7 +25,7 @@ module _ (bs : List ℕ) (at : ℕ) (s : Slot) where
 
   moves : firstOf (slotChecks bs at s) ≡ 0 → (x : ℕ) → x ≡ numberAt bs (at + 3) (s .width)
       → ((0, x) ≡ nextNumber bs at s) × (at + 3 + s .width ≡ nextPlace bs at s)
-  moves e x is = (ap (λ (y : ℕ). (0, y)) is ∙ rw e, rw e)
+  moves e x is = (ap (λ (y : ℕ). (0, y)) is ∙ rw e, add-assoc at 3 (s .width) ∙ rw e)
 
 clear : (c : tie.After-enum-told) → let a = c .before .before .before .before .args in firstOf (slotChecks (now (a .bytes)) (a .at) (a .slot)) ≡ 0
 clear c = sym (c .before .before .slot-fault .ensures) ∙ ap verdict (c .enum-told .given .1)
