@@ -26,12 +26,12 @@ value-at-one bs at width r s = one-result
 
 -- ---- verdicts: their numbers lead back to them
 
-unfoldable named : ℕ → Verdict
+unfoldable pub named : ℕ → Verdict
 named n =
     cond (eqb n 0) Right
     (Wrong (cond (eqb n 33) CutShort (cond (eqb n 34) WrongTag (cond (eqb n 35) WrongLength (cond (eqb n 36) WrongValue LeftOver)))))
 
-named-back : (v : Verdict) → named (verdict v) ≡ v
+pub named-back : (v : Verdict) → named (verdict v) ≡ v
 unfolding named
 named-back Right = refl
 named-back (Wrong CutShort) = refl

@@ -49,7 +49,7 @@ module _ (hop : ℕ) where
   hop-same false x y e = sym (eqb-true hop 0 e)
 
 module _ (bs : List ℕ) where
-  numbers-by : (b : Bool) (x y : ℕ)
+  pub numbers-by : (b : Bool) (x y : ℕ)
       → let zs : List ℕ = numbersAt bs 15 (cond b (hopSlot ∷ []) []) in cond b (getD (x ∷ y ∷ zs) 2 0 ∷ []) [] ≡ zs
   numbers-by true x y = refl
   numbers-by false x y = refl
