@@ -54,6 +54,21 @@ def readable(rules, data):
     return values
 
 
+def passed(rules, data):
+    """What a reader answers for stamp, source and hop: each its fault or 0, its number, and the place that it comes to. Then the order's bytes."""
+    at, said = 0, []
+    for tag, width, least, most in (1, 8, 0, LAST_STAMP), (2, 1, 0, 7), (3, 1, 1, 8):
+        head, size = data[at : at + 3], int.from_bytes(data[at + 1 : at + 3], "big")
+        value = data[at + 3 : at + 3 + size]
+        number = int.from_bytes(value, "big")
+        faults = {33: len(head) < 3 or len(value) < size, 34: head[:1] != bytes([tag]), 35: size != width, 36: not least <= number <= most}
+        fault = next((n for n, met in faults.items() if met), 0)
+        at += 0 if fault else 3 + size
+        said += [fault, 0 if fault else number, at]
+    print("reader", *said)
+    print((readable(rules, data) or [b""])[-1].hex())
+
+
 def counted(name, rules, tries):
     good = sum(readable(rules, t) is not None for t in tries)
     print(name, len(tries) - good, good, 0)
@@ -61,6 +76,7 @@ def counted(name, rules, tries):
 
 def damage(rules, *parts):
     data = written(rules, *parts)
+    passed(rules, data)
     counted("damaged", rules, [data[:i] + bytes([b]) + data[i + 1 :] for i in range(len(data)) for b in range(256)])
     counted("cut", rules, [data[:i] for i in range(len(data))])
     counted("longer", rules, [data + bytes([b]) for b in range(256)])
@@ -107,3 +123,6 @@ TRIES = [
 print("write", *(refused(*t) for t in TRIES))
 print("read", 23, 30)
 shuffle()
+RESUME = written(2, 100, 7, 8, (3, 7, 0))
+passed(2, RESUME[:14])
+passed(2, RESUME[:11] + bytes([3]) + RESUME[12:])

@@ -1,3 +1,4 @@
--- What the proofs of several functions use, and the laws for callers.
+-- What the proofs of several functions use, the laws for callers, and that a promise admits one result.
 mod Sums
 pub mod Laws
+pub mod One

@@ -43,20 +43,24 @@ Within (s ∷ ss) (x ∷ xs) = ((s .least ≤ x) × (x ≤ s .largest)) × Withi
 -- ---- one slot
 
 -- a slot's field with nothing wrong
-record SlotIs (bs : List ℕ) (at : ℕ) (s : Slot) : Type 0 where
+pub record SlotIs (bs : List ℕ) (at : ℕ) (s : Slot) : Type 0 where
   head : HeadIs bs at (s .tag)
   long : statedAt bs at ≡ s .width
+  pub room : at + 3 + s .width ≤ length bs
   least : s .least ≤ numberAt bs (at + 3) (s .width)
   largest : numberAt bs (at + 3) (s .width) ≤ s .largest
 
-slot-is : (bs : List ℕ) (at : ℕ) (s : Slot) → firstOf (slotChecks bs at s) ≡ 0 → SlotIs bs at s
+pub slot-is : (bs : List ℕ) (at : ℕ) (s : Slot) → firstOf (slotChecks bs at s) ≡ 0 → SlotIs bs at s
 slot-is bs at s e =
     let p = none-pass (slotChecks bs at s) refl e in
     let x : ℕ = numberAt bs (at + 3) (s .width) in
     let both : (leb (s .least) x && leb x (s .largest)) ≡ true = not-false _ (p .1 .1 .1 .0) in
+    let head = head-is bs at (s .tag) (simp (p .0, p .1 .0)) in
+    let long : statedAt bs at ≡ s .width = eqb-true (statedAt bs at) (s .width) (not-false _ (p .1 .1 .0)) in
     record {
-      head = head-is bs at (s .tag) (simp (p .0, p .1 .0));
-      long = eqb-true (statedAt bs at) (s .width) (not-false _ (p .1 .1 .0));
+      head = head;
+      long = long;
+      room = rw long at (head .room);
       least = leb-true (s .least) x (and-left (leb (s .least) x) (leb x (s .largest)) both);
       largest = leb-true x (s .largest) (and-right (leb (s .least) x) (leb x (s .largest)) both);
     }
@@ -70,9 +74,8 @@ module _ (bs : List ℕ) (small : Bytes bs) where
       let w : ℕ = s .width in
       let value : List ℕ = be w (numberAt bs (at + 3) w) in
       let long : length value ≡ w = length-be w (numberAt bs (at + 3) w) in
-      let room : at + 3 + w ≤ length bs = rw (i .long) at (i .head .room) in
       let stands : value ≡ part bs (at + 3) (length value) =
-      ap (λ (k : ℕ). be w (valAt bs (at + 3) k)) (narrow-min w (g .narrow)) ∙ be-val bs small (at + 3) w room ∙ ap (part bs (at + 3)) (sym long) in
+      ap (λ (k : ℕ). be w (valAt bs (at + 3) k)) (narrow-min w (g .narrow)) ∙ be-val bs small (at + 3) w (i .room) ∙ ap (part bs (at + 3)) (sym long) in
       field-part bs small at (s .tag) value (i .head) (i .long ∙ sym long) stands ∙ ap (λ (k : ℕ). part bs at (3 + k)) long
 
   -- ---- what is read writes back

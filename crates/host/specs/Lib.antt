@@ -8,4 +8,3 @@ pub mod Tick
 pub mod Receive
 pub mod Calls
 pub mod Published
-pub mod Cases

@@ -2,5 +2,8 @@
 mod WriteLaws
 mod ReadLaws
 mod OrderLaws
+mod Asking
+pub mod Kept
 pub mod RoundTrip
+pub mod FieldByField
 pub mod One

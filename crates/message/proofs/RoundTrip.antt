@@ -9,7 +9,6 @@ use borrow.Author.Tests.{leb-true, le-leb, le-ltb, eqb-true}
 use lib.Dec.{leb, eqb}
 use lib.ListN.{length, getD, length-append}
 use lib.Seq.{take-all}
-use Rattle.lists.specs.Bytes.{be, valAt}
 use Rattle.lists.specs.Lists.{flat}
 use Rattle.lists.proofs.Bools.{and-left, and-right}
 use Rattle.lists.proofs.TestLaws.{all-each, each-all}
@@ -17,9 +16,7 @@ use Rattle.lists.proofs.ByteLaws.{Bytes, part, part-add}
 use Rattle.clock.specs.Clock.{largestStamp}
 use Rattle.orders.specs.Orders.{imageOf, shareFits, orderAt, orderBytes}
 use Rattle.orders.specs.Rules.{isRules, hopFits}
-use Rattle.orders.specs.declared.Order.the-variants.{Halt}
 use Rattle.fields.specs.Fields.{field, numberAt, statedAt}
-use Rattle.fields.specs.Faults.{first}
 use Rattle.fields.specs.Slots.{filled, slotFields, numbersAt}
 use Rattle.fields.proofs.Checks.{Clear, clear-left, clear-both, clear-first}
 use Rattle.fields.proofs.Placing.{length-field}
@@ -52,7 +49,7 @@ module _ (hop : ℕ) where
   hop-same false x y e = sym (eqb-true hop 0 e)
 
 module _ (bs : List ℕ) where
-  numbers-by : (b : Bool) (x y : ℕ)
+  pub numbers-by : (b : Bool) (x y : ℕ)
       → let zs : List ℕ = numbersAt bs 15 (cond b (hopSlot ∷ []) []) in cond b (getD (x ∷ y ∷ zs) 2 0 ∷ []) [] ≡ zs
   numbers-by true x y = refl
   numbers-by false x y = refl
@@ -166,16 +163,3 @@ module _ (rules : ℕ) (bs : List ℕ) (f : Found) (small : Bytes bs) (e : readO
 pub one-string : (rules : ℕ) (bs cs : List ℕ) (f g : Found) → Bytes bs → Bytes cs → readOf rules bs ≡ (0, f) → readOf rules cs ≡ (0, g) → f .message ≡ g .message → bs ≡ cs
 one-string rules bs cs f g b c p q e =
     sym (written-back rules bs f b p .0) ∙ ap (layout rules) e ∙ written-back rules cs g c q .0
-
--- ---- the worked message: "Halt of image 7, stamp 100, source 0, first rules (P)"
-
-abbrev pub halt-7 : Message
-halt-7 = record { stamp = record { 0 = 100 }; source = 0; hop = 0; order = Halt 7 }
-
-abbrev pub halt-7-bytes : List ℕ
-halt-7-bytes =
-    0x01 ∷ 0x00 ∷ 0x08 ∷ 0x00 ∷ 0x00 ∷ 0x00 ∷ 0x00 ∷ 0x00 ∷ 0x00 ∷ 0x00 ∷ 0x64 ∷ 0x02 ∷ 0x00 ∷ 0x01 ∷ 0x00 ∷ 0x04 ∷ 0x00 ∷ 0x05 ∷ 0x02 ∷ 0x00 ∷ 0x00 ∷ 0x00 ∷ 0x07 ∷ []
-
-pub worked : (layout 1 halt-7 ≡ halt-7-bytes) × (readOf 1 halt-7-bytes ≡ (0, record { message = halt-7; start = 18; size = 5 }))
-unfolding layout field be valAt orderBytes first
-worked = (refl, refl)

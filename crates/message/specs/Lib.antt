@@ -1,3 +1,4 @@
 pub mod Layout
 pub mod Calls
+pub mod Reader
 pub mod Inside

@@ -1,7 +1,13 @@
 // The message of an order: stamp, source, hop and order, each in a field, by one layout that is written and read.
+mod reader;
 mod reading;
 mod writing;
 
+pub use reader::Reader;
+pub use reader::next_number;
+pub use reader::open;
+pub use reader::order_bytes;
+pub use reader::whole;
 pub use reading::order_part;
 pub use reading::read;
 pub use writing::write;
@@ -9,6 +15,7 @@ ghost use mathlib.Core.Path.{_≡_};
 ghost use Rattle.message.specs.Layout.{orderPlace};
 use clock::LARGEST_STAMP;
 use clock::Reading;
+use fields::Fault;
 use fields::Slot;
 use orders::Order;
 
@@ -41,21 +48,27 @@ pub enum Got {
     NotAMessage,
 }
 
-const STAMP: Slot = Slot {
+// What the next field of a reader answers: its number, or its fault.
+pub enum Number {
+    Value(u64),
+    Wrong(Fault),
+}
+
+pub const STAMP: Slot = Slot {
     tag: 1,
     width: 8,
     least: 0,
     largest: LARGEST_STAMP,
 };
 
-const SOURCE: Slot = Slot {
+pub const SOURCE: Slot = Slot {
     tag: 2,
     width: 1,
     least: 0,
     largest: 7,
 };
 
-const HOP: Slot = Slot {
+pub const HOP: Slot = Slot {
     tag: 3,
     width: 1,
     least: 1,

@@ -1,4 +1,5 @@
-// Messages written, damaged, cut, lengthened and read again; what is counted is compared with the file stdout.
+// Messages written, passed by a reader, damaged, cut, lengthened and read again; what is counted is compared with the file stdout.
+mod places;
 mod sweep;
 mod text;
 
@@ -27,6 +28,7 @@ fn main() {
     damage(made(2, 258, 1, 1, publish(65_536, 1)));
     refuse();
     shuffle();
+    mislead();
 }
 
 fn made(rules: u8, stamp: u64, source: u8, hop: u8, order: Order) -> Case {
@@ -52,6 +54,7 @@ fn damage(case: Case) {
         text::line(b"not written");
         return;
     };
+    places::print(case.rules, sweep::first(&bytes, n));
     let none = sweep::none();
     let one_more = std::num::wrapping_add_usize(n, 1);
     sweep::print(
@@ -132,6 +135,17 @@ fn shuffle() {
     text::number(sums.bytes);
     text::number(sums.orders);
     text::line(b"");
+}
+
+// A reader over a message that ends within its source, and over one with another tag there.
+fn mislead() {
+    let mut bytes = [0u8; 27];
+    let case = made(2, 100, 7, 8, Order::Resume(7));
+    let message = case.message;
+    message::write(2, message, &mut bytes);
+    places::print(2, sweep::first(&bytes, 14));
+    bytes[11] = 3;
+    places::print(2, &bytes);
 }
 
 // The next number below 2^31 of a linear congruence.

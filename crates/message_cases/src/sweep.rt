@@ -72,7 +72,7 @@ pub(crate) fn each_cut(rules: u8, bytes: &[u8], n: usize, tally: Tally) -> Tally
 }
 
 // The first n bytes, and all of them where there are fewer.
-fn first(bytes: &[u8], n: usize) -> &[u8] {
+pub(crate) fn first(bytes: &[u8], n: usize) -> &[u8] {
     if n <= bytes.len() { &bytes[..n] } else { bytes }
 }
 

@@ -1,15 +1,11 @@
 -- What each test of a plan makes planning say, and back: what an answer says of the plan. Assumes nothing.
 use mathlib.Core.Path.{_≡_, refl}
-use mathlib.Core.Bool.{true, false, cond}
+use mathlib.Core.Bool.{true, false}
 use Prim.Native.Nat.{_≤_, _<_}
 use borrow.Author.Tests.{not-false, le-leb, lt-leb, leb-false}
-use lib.Dec.{eqb}
-use Rattle.lists.proofs.One.{one-answer}
 use Rattle.lists.proofs.TestLaws.{none-pass}
-use Rattle.network.specs.Network.{n, inRange, badLinks, worst, bounds, planTests, planRefusal, Said, refused, planned, says}
+use Rattle.network.specs.Network.{n, inRange, badLinks, worst, bounds, planTests, planRefusal, refused, planned}
 use Rattle.network.specs.declared.Plan.{Plan}
-use Rattle.network.specs.declared.Planned.{Planned}
-use Rattle.network.specs.declared.Planned.the-variants.{Accepted, OutOfRange, BadLink, Parted}
 
 module _ (p : Plan) where
   -- ---- from the tests to the answer, in the order of check
@@ -43,18 +39,3 @@ module _ (p : Plan) where
   fine e =
       let t = none-pass (planTests p) refl e in
       record { ranges = not-false _ (t .0); links = t .1 .0; near = leb-false _ _ (t .1 .1 .0) }
-
--- ---- the cases of the answer are told apart by what they say, so the promise of `plan` admits one result only
-
-answerOf : Said → Planned
-answerOf s = cond (eqb (s .refusal) 0) (Accepted (s .bounds)) (cond (eqb (s .refusal) 1) OutOfRange (cond (eqb (s .refusal) 2) BadLink Parted))
-
-answerOf-says : (r : Planned) → answerOf (says r) ≡ r
-unfolding answerOf
-answerOf-says (Accepted b) = refl
-answerOf-says OutOfRange = refl
-answerOf-says BadLink = refl
-answerOf-says Parted = refl
-
-pub plan-one : (p : Plan) (r s : Planned) → says r ≡ planned p → says s ≡ planned p → r ≡ s
-plan-one p = one-answer says answerOf answerOf-says

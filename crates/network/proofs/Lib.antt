@@ -1,4 +1,4 @@
--- What the proofs of several functions use, and the laws for callers: Answers, Survivors, Partings, Limits.
+-- What the proofs of several functions use, the laws for callers (Answers, Survivors, Partings, Limits), and that a promise admits one result.
 pub mod Bits
 pub mod Sizes
 pub mod Ranges
@@ -9,3 +9,4 @@ pub mod Answers
 pub mod Survivors
 pub mod Partings
 pub mod Limits
+pub mod One

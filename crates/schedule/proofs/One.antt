@@ -27,5 +27,8 @@ answer-back BadLink = refl
 answer-back Parted = refl
 answer-back (OutsideRules k) = refl
 
+pub one-answered : {numbers : ℕ × ℕ} (a b : Answer) → says a ≡ numbers → says b ≡ numbers → a ≡ b
+one-answered = one-answer says answerOf answer-back
+
 pub read-one : (bs : List ℕ) (r s : Found) → Right bs r → Right bs s → (r .answer ≡ s .answer) × (r .schedule ≡ s .schedule)
-read-one bs r s x y = (one-answer says answerOf answer-back (r .answer) (s .answer) (x .0) (y .0), one-result (x .1) (y .1))
+read-one bs r s x y = (one-answered (r .answer) (s .answer) (x .0) (y .0), one-result (x .1) (y .1))
