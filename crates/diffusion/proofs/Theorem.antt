@@ -10,6 +10,7 @@ use native.Mathlib.Omega.{arith}
 use lib.Dec.{leb}
 use Rattle.lists.specs.Lists.{keep}
 use Rattle.lists.specs.Members.{In}
+use Rattle.lists.proofs.MemberLaws.{map-append}
 use Rattle.orders.specs.declared.Order.{Order}
 use Rattle.clock.specs.Clock.{largestReading}
 use Rattle.network.specs.Network.{n, Survivor}
@@ -26,10 +27,6 @@ use Rattle.diffusion.proofs.Agreement as Agreement
 use Rattle.diffusion.proofs.Agreement.{Keeps}
 
 -- ---- lists of entries
-
-map-append : {A B : Type 0} (f : A → B) (a b : List A) → map f (a ++ b) ≡ map f a ++ map f b
-map-append f [] b = refl
-map-append {A} {B} f (x ∷ a) b = ap (λ (l : List B). f x ∷ l) (map-append f a b)
 
 map-same : {A B : Type 0} (f g : A → B) (l : List A) → ((x : A) → In x l → f x ≡ g x) → map f l ≡ map g l
 map-same f g [] e = refl

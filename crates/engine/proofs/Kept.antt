@@ -6,7 +6,7 @@ use mathlib.Core.Bool.{Bool, true, false, false≢true}
 use mathlib.Core.List.{List, [], _∷_, _++_, map}
 use Prim.Native.Nat.{ℕ, _+_, _≤_, _<_}
 use native.Mathlib.Omega.{arith}
-use lib.ListN.{length, length-append}
+use lib.ListN.{length, length-append, length-map}
 use Rattle.lists.specs.Lists.{any, insert, rising}
 use Rattle.lists.specs.Members.{In, All, Distinct}
 use Rattle.lists.proofs.Listed.{in-insert, member-none, none-member, all-member}
@@ -27,7 +27,6 @@ use Rattle.engine.specs.declared.Station.{Station}
 use Rattle.engine.specs.Parts.{listOf, logOf, order}
 use Rattle.engine.specs.Run.{delivered}
 use Rattle.engine.specs.Inside.{Room}
-use Rattle.engine.proofs.Logs.{length-map}
 
 -- the orders that a station has delivered, and these with those that it holds
 abbrev pub gone : Station → List Held
@@ -79,14 +78,14 @@ module _ (s : Schedule) where
       let ks = numbers l f in
       let d : Distinct (map (order s) (ks .0)) = rw (ks .1) (distinct l r) in
       let most : length (ks .0) ≤ s .«start_count» = pigeon-all (s .«start_count») (ks .0) (distinct-map (order s) (ks .0) d) (ks .2) in
-      let same : length l ≡ length (ks .0) = ap length (sym (ks .1)) ∙ length-map (order s) (ks .0) in
+      let same : length l ≡ length (ks .0) = ap length (sym (ks .1)) ∙ length-map (ks .0) (order s) in
       omega arith
 
   pub room-kept : (p : ℕ) (a : Station) (u : Reading) → Kept s p a → s .«start_count» ≤ 16 → Room a u
   room-kept p a u k most =
       let all : length (taken a) ≤ s .«start_count» = few (taken a) (k .rise) (k .named) in
       let both : length (taken a) ≡ length (gone a) + length (heldOf (a .host)) = length-append (gone a) (heldOf (a .host)) in
-      let out : length (gone a) ≡ length (listOf (a .log)) = length-map (λ (d : Delivery). d .what) (listOf (a .log)) in
+      let out : length (gone a) ≡ length (listOf (a .log)) = length-map (listOf (a .log)) (λ (d : Delivery). d .what) in
       let counted : a .log .count ≡ length (listOf (a .log)) = ap (λ (l : Log). l .count) (k .set-out) in
       let split : length (dueOf (a .host) (u .0)) + length (waitingOf (a .host) (u .0)) ≡ length (heldOf (a .host)) = keep-both _ (heldOf (a .host)) in
       record { log = k .set-out; room = omega arith }

@@ -8,9 +8,10 @@ use native.Mathlib.Numerals.{add-one}
 use native.Mathlib.Omega.{arith}
 use borrow.Author.Tests.{leb-true, le-leb, eqb-true}
 use lib.Dec.{eqb}
-use lib.ListN.{length, take, getD, set, length-append}
+use lib.ListN.{length, take, getD, set, length-append, length-map}
 use lib.Seq.{take-suc, length-take-le, take-append-seam, getD-set-other}
 use Rattle.lists.specs.Lists.{all, keep, pad, rising}
+use Rattle.lists.proofs.MemberLaws.{map-append}
 use Rattle.lists.proofs.Places.{pad-more}
 use Rattle.lists.proofs.Order.{rising-tail}
 use Rattle.lists.proofs.Rises.{first-before}
@@ -41,14 +42,6 @@ use Rattle.engine.specs.Inside.{Room}
 
 -- ---- the loop that adds the first so many of a history
 
-pub length-map : {A B : Type 0} (f : A → B) (l : List A) → length (map f l) ≡ length l
-length-map f [] = refl
-length-map f (x ∷ l) = ap suc (length-map f l)
-
-map-snoc : {A B : Type 0} (f : A → B) (l : List A) (x : A) → map f (l ++ (x ∷ [])) ≡ map f l ++ (f x ∷ [])
-map-snoc f [] x = refl
-map-snoc {A} {B} f (y ∷ l) x = ap (λ (t : List B). f y ∷ t) (map-snoc f l x)
-
 module _ (u : Reading) (log : Log) (set-out : log ≡ logOf (listOf log)) (h : List Held) where
   abbrev with-first : ℕ → List Delivery
   with-first i = listOf log ++ map (delivery u) (take i h)
@@ -59,7 +52,7 @@ module _ (u : Reading) (log : Log) (set-out : log ≡ logOf (listOf log)) (h : L
   with-long : (i : ℕ) → i ≤ length h → length (with-first i) ≡ log .count + i
   with-long i k =
       length-append (listOf log) (map (delivery u) (take i h))
-      ∙ ap (λ (n : ℕ). length (listOf log) + n) (length-map (delivery u) (take i h) ∙ length-take-le i h k)
+      ∙ ap (λ (n : ℕ). length (listOf log) + n) (length-map (take i h) (delivery u) ∙ length-take-le i h k)
       ∙ ap (λ (n : ℕ). n + i) (sym counted)
 
   pub more-start : log .entries ≡ pad 16 noDelivery (with-first 0)
@@ -75,7 +68,7 @@ module _ (u : Reading) (log : Log) (set-out : log ≡ logOf (listOf log)) (h : L
       ∙ ap (λ (n : ℕ). set (pad 16 noDelivery (with-first i)) n x) (sym at)
       ∙ pad-more 16 noDelivery x (with-first i) (omega arith)
       ∙ ap (pad 16 noDelivery) (append-assoc (listOf log) (map (delivery u) (take i h)) (x ∷ [])
-      ∙ ap (λ (t : List Delivery). listOf log ++ t) (sym (map-snoc (delivery u) (take i h) (getD h i noHeld)) ∙ ap (map (delivery u)) (sym next)))
+      ∙ ap (λ (t : List Delivery). listOf log ++ t) (sym (map-append (delivery u) (take i h) (getD h i noHeld ∷ [])) ∙ ap (map (delivery u)) (sym next)))
 
   pub more-end : (i n : ℕ) (e : List Delivery) → i ≤ n → n ≤ i → n ≤ length h → e ≡ pad 16 noDelivery (with-first i)
       → record { count = log .count + n; entries = e } ≡ logOf (with-first n)

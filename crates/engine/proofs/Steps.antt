@@ -10,7 +10,7 @@ use lib.Dec.{eqb}
 use Rattle.lists.specs.Lists.{any, insert, rising}
 use Rattle.lists.specs.Members.{In}
 use Rattle.lists.proofs.Places.{take-pad}
-use Rattle.lists.proofs.MemberLaws.{in-append}
+use Rattle.lists.proofs.MemberLaws.{in-append, map-append}
 use Rattle.clock.specs.declared.Reading.{Reading}
 use Rattle.network.specs.Network as net
 use Rattle.network.proofs.Ranges.{ranges}
@@ -42,10 +42,6 @@ bound-some h s =
     let low = ranges (h .plan) (s .ranges) .skew-low in
     let sum = s .formula in
     omega arith
-
-pub map-append : {A B : Type 0} (f : A → B) (l r : List A) → map f (l ++ r) ≡ map f l ++ map f r
-map-append f [] r = refl
-map-append {A} {B} f (x ∷ l) r = ap (λ (t : List B). f x ∷ t) (map-append f l r)
 
 what-delivered : (u : Reading) (l : List Held) → map (λ (d : Delivery). d .what) (map (delivery u) l) ≡ l
 what-delivered u [] = refl

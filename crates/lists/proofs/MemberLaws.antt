@@ -1,4 +1,4 @@
--- The laws of membership, and the pigeonhole. Assumes nothing.
+-- The laws of membership and of the values of a list, and the pigeonhole. Assumes nothing.
 use mathlib.Core.Path.{_≡_, refl, sym, ap, _∙_, subst}
 use mathlib.Core.Logic.{_⊎_, inl, inr}
 use mathlib.Core.Bool.{Bool, true, false, not, cond, _&&_}
@@ -146,3 +146,9 @@ pub map-in : {A B : Type 0} (f : A → B) (l : List A) (y : B) → In y (map f l
 map-in f [] y i = absurd i
 map-in f (x ∷ l) y (inl e) = (x, inl refl, e)
 map-in f (x ∷ l) y (inr i) = let r = map-in f l y i in (r .0, inr (r .1), r .2)
+
+-- ---- the values of a list
+
+pub map-append : {A B : Type 0} (f : A → B) (l r : List A) → map f (l ++ r) ≡ map f l ++ map f r
+map-append f [] r = refl
+map-append {A} {B} f (x ∷ l) r = ap (λ (t : List B). f x ∷ t) (map-append f l r)

@@ -1,5 +1,5 @@
 -- Laws for the proofs here, and the theorems of the layout.
-mod WriteLaws
+pub mod WriteLaws
 mod ReadLaws
 mod OrderLaws
 mod Asking

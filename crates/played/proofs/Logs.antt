@@ -8,6 +8,7 @@ use borrow.Author.Tests.{eqb-true, eqb-false, le-leb}
 use lib.Dec.{eqb}
 use lib.ListN.{getD, set}
 use lib.Seq.{getD-set-other}
+use Rattle.lists.proofs.MemberLaws.{map-append}
 use Rattle.lists.proofs.Places.{take-pad}
 use Rattle.lists.proofs.Listing.{getD-listed}
 use Rattle.clock.specs.declared.Tick.{Tick}
@@ -27,7 +28,6 @@ use Rattle.engine.specs.Turns.{inTurn}
 use Rattle.engine.specs.Parts.{noDelivery, listOf, logOf, noStation, clock, start, receiver}
 use Rattle.engine.specs.Run.{delivered, delivery, tickAll, station, become, hand, arrives, arriveOne, tell, startOne, arrived, play, opening, world}
 use Rattle.engine.proofs.Turns.{keeps}
-use Rattle.engine.proofs.Steps.{map-append}
 use Rattle.engine.proofs.Runs.{playable}
 use Rattle.engine.proofs.Sends.{world-both}
 use Rattle.played.specs.Reported.{lineOf}

@@ -7,8 +7,8 @@ use native.Mathlib.Omega.{arith}
 use lib.ListN.{length, take, getD, set, replicate, length-map}
 use lib.Seq.{length-take-le, take-suc, take-all}
 use Rattle.lists.specs.Lists.{pad}
+use Rattle.lists.proofs.MemberLaws.{map-append}
 use Rattle.lists.proofs.Places.{pad-more}
-use Rattle.engine.proofs.Steps.{map-append}
 
 module _ {A B : Type 0} (f : A → B) (N : ℕ) (z : B) (l : List A) where
   pub fill-next : (d : A) (i : ℕ) → i < length l → length l ≤ N → set (pad N z (map f (take i l))) i (f (getD l i d)) ≡ pad N z (map f (take (i + 1) l))

@@ -2,4 +2,4 @@
 mod Forms
 mod Converts
 mod Lefts
-mod Messages
+mod Sizes

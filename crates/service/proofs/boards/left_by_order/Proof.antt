@@ -1,45 +1,60 @@
+-- Memory that fits gives the board, and what the order makes of it is left. Assumes nothing.
 use borrow.Author.Needs.{needs}
+use mathlib.Core.Path.{_≡_, refl, sym, ap, _∙_}
+use mathlib.Core.Bool.{true, false}
+use borrow.Author.Tests.{not-true, not-false, eq-eqb, ne-eqb}
+use Prim.Native.Nat.{ℕ}
+use Rattle.orders.specs.declared.Order.{Order}
+use Rattle.board.specs.declared.Board.{Board}
+use Rattle.board.specs.Board.{boardRefusal, boardAfter}
+use Rattle.service.specs.Memory.{boardFrom, boardMemory, orderFrom}
+use Rattle.service.specs.Calls.{boardFits}
 use Rattle.service.proofs.boards.left_by_order.Statement.{statement}
 use Rattle.service.proofs.boards.left_by_order.Tie as tie
-use Rattle.service.proofs.boards.left_by_order.Reads as reads
-use Rattle.service.proofs.boards.left_by_order.Lts as lts
-use Rattle.board.proofs.after_order.Reads as after-order-reads
-use Rattle.service.proofs.boards.board_from.Reads as board-from-reads
-use Rattle.service.proofs.boards.board_memory.Reads as board-memory-reads
-use Rattle.service.proofs.boards.number_of.Reads as number-of-reads
-use Rattle.service.proofs.orders_in.order_from.Reads as order-from-reads
 
--- src/boards.rt:18:9
 board-from-requires : tie.Need-board-from-requires
 board-from-requires c κs = search needs
 
--- src/boards.rt:20:9
 returns : tie.Need-returns
-returns c = ?
+returns c =
+    let no : boardFits (c .before .before .before .args .memory) ≡ false = sym (c .before .before .board-from .ensures .0) ∙ not-true _ (c .if1 .taken) in
+    simp no (refl, refl)
 
--- src/boards.rt:23:9
 order-from-requires : tie.Need-order-from-requires
 order-from-requires c κs = search needs
 
--- src/boards.rt:24:9
 after-order-requires : tie.Need-after-order-requires
 after-order-requires c κs = search needs
 
--- src/boards.rt:26:9
 number-of-requires : tie.Need-number-of-requires
 number-of-requires c κs = search needs
 
--- src/boards.rt:28:9
 returns-2 : tie.Need-returns-2
-returns-2 c = ?
+returns-2 c =
+    let a = c .before .before .before .before .before .before .before .before .args in
+    let t = c .before .before .before .before .before .before .before .board-from in
+    let r = c .before .before .after-order in
+    let o : Order = orderFrom (a .kind) (a .image) (a .share) in
+    let yes : boardFits (a .memory) ≡ true = sym (t .ensures .0) ∙ not-false _ (c .before .before .before .before .before .if1 .left) in
+    let told : c .before .number-of .result ≡ boardRefusal (boardFrom (a .memory)) o =
+    c .before .number-of .ensures ∙ r .ensures .1 ∙ ap (λ (b : Board). boardRefusal b (c .before .before .before .order-from .result)) (t .ensures .1) ∙ ap (boardRefusal (boardFrom (a .memory))) (c .before .before .before .order-from .ensures) in
+    rw (yes, ← told, ne-eqb _ _ (c .if2 .taken)) (refl, refl)
 
--- src/boards.rt:35:17
 board-memory-requires : tie.Need-board-memory-requires
 board-memory-requires c κs = search needs
 
--- src/boards.rt:15:1
 returns-3 : tie.Need-returns-3
-returns-3 c = ?
+returns-3 c =
+    let a = c .before .before .before .before .before .before .before .before .before .before .args in
+    let t = c .before .before .before .before .before .before .before .before .before .board-from in
+    let r = c .before .before .before .before .after-order in
+    let o : Order = orderFrom (a .kind) (a .image) (a .share) in
+    let yes : boardFits (a .memory) ≡ true = sym (t .ensures .0) ∙ not-false _ (c .before .before .before .before .before .before .before .if1 .left) in
+    let told : 0 ≡ boardRefusal (boardFrom (a .memory)) o =
+    sym (c .before .before .if2 .left) ∙ c .before .before .before .number-of .ensures ∙ r .ensures .1 ∙ ap (λ (b : Board). boardRefusal b (c .before .before .before .before .before .order-from .result)) (t .ensures .1) ∙ ap (boardRefusal (boardFrom (a .memory))) (c .before .before .before .before .before .order-from .ensures) in
+    let after : r .result .board ≡ boardAfter (boardFrom (a .memory)) o =
+    r .ensures .0 ∙ ap (λ (b : Board). boardAfter b (c .before .before .before .before .before .order-from .result)) (t .ensures .1) ∙ ap (boardAfter (boardFrom (a .memory))) (c .before .before .before .before .before .order-from .ensures) in
+    (c .board-memory .ensures ∙ ap boardMemory after ∙ rw (yes, ← told) refl, told ∙ rw yes refl)
 
 pub left-by-order-spec : {M : Type 1} → statement M
 left-by-order-spec =

@@ -1,64 +1,103 @@
+-- Memory that fits gives the host, and what its tick gives back is left. Assumes nothing.
 use borrow.Author.Needs.{needs}
+use mathlib.Core.Path.{_≡_, refl, sym, ap, _∙_}
+use mathlib.Core.Bool.{Bool, true, false, cond}
+use Prim.Native.Nat.{ℕ, _+_, _*_, _≤_}
+use native.Mathlib.Omega.{arith}
+use borrow.Author.Tests.{not-true, not-false}
+use lib.ListN.{length}
+use Rattle.clock.specs.declared.Reading.{Reading}
+use Rattle.host.specs.declared.Host.{Host}
+use Rattle.host.specs.declared.TickAnswer.the-variants.{Delivered, Refused}
+use Rattle.host.specs.Answers.{number, SaidTick, saysTick}
+use Rattle.host.specs.Tick.{tickRefusal, tickSays, tickHost, tickList, afterTick}
+use Rattle.host.proofs.Numbers.{not-none}
+use Rattle.service.specs.Memory.{hostFrom, hostMemory}
+use Rattle.service.specs.Calls.{fits, tickNumber}
+use Rattle.service.proofs.Lefts.{said-tick, left-fitting, few-due}
 use Rattle.service.proofs.calls.left_by_tick.Statement.{statement}
 use Rattle.service.proofs.calls.left_by_tick.Tie as tie
-use Rattle.service.proofs.calls.left_by_tick.Reads as reads
-use Rattle.service.proofs.calls.left_by_tick.Lts as lts
-use Rattle.host.proofs.number_of.Reads as number-of-reads
-use Rattle.host.proofs.after_tick.Reads as after-tick-reads
-use Rattle.service.proofs.memory.host_from.Reads as host-from-reads
-use Rattle.service.proofs.memory.host_memory.Reads as host-memory-reads
 
--- src/calls.rt:119:9
 host-from-requires : tie.Need-host-from-requires
 host-from-requires c κs = search needs
 
--- src/calls.rt:121:9
 returns : tie.Need-returns
-returns c = ?
+returns c =
+    let no : fits (c .before .before .before .before .args .memory) ≡ false = sym (c .before .before .host-from .ensures .0) ∙ not-true _ (c .if1 .taken) in
+    simp no (refl, (refl, refl))
 
--- src/calls.rt:124:9
 after-tick-requires : tie.Need-after-tick-requires
 after-tick-requires c κs = search needs
 
--- src/calls.rt:127:29
 enum-known-answer : tie.Need-enum-known-answer
 enum-known-answer c = search needs
 
--- src/calls.rt:129:21
 number-of-requires : tie.Need-number-of-requires
 number-of-requires c κs = search needs
 
--- src/calls.rt:129:21
 cast-t17 : tie.Need-cast-t17
 cast-t17 c = search needs
 
--- src/calls.rt:131:31
 enum-known-answer-2 : tie.Need-enum-known-answer-2
 enum-known-answer-2 c = search needs
 
--- src/calls.rt:134:25
 host-memory-requires : tie.Need-host-memory-requires
 host-memory-requires c κs = search needs
 
--- src/calls.rt:135:25
 mul-t20 : tie.Need-mul-t20
-mul-t20 c = ?
+mul-t20 c =
+    let a = c .before .before .before .before .before .before .before .before .before .before .before .before .before .before .args in
+    let t = c .before .before .before .before .before .before .before .before .before .before .before .before .host-from in
+    let r = c .before .before .before .before .before .before .before .after-tick in
+    let e = ap saysTick (sym (c .before .before .before .answer2 .given .1)) ∙ r .ensures .1 .0 in
+    let few = few-due _ _ _ _ e in
+    omega (arith, few)
 
--- src/calls.rt:116:1
 same-length : tie.Need-same-length
 same-length c = search needs
 
--- src/calls.rt:116:1
 returns-2 : tie.Need-returns-2
-returns-2 c = ?
+returns-2 c =
+    let a = c .before .before .before .before .before .before .before .before .before .before .before .before .before .args in
+    let t = c .before .before .before .before .before .before .before .before .before .before .before .host-from in
+    let r = c .before .before .before .before .before .before .after-tick in
+    let u : Reading = record { 0 = a .u } in
+    let h : Host = hostFrom (a .memory) in
+    let room : ℕ = length (a .out .now) in
+    let yes : fits (a .memory) ≡ true = sym (t .ensures .0) ∙ not-false _ (c .before .before .before .before .before .before .before .before .before .if1 .left) in
+    let host : r .result .host ≡ tickHost h u room = r .ensures .0 ∙ ap (λ (g : Host). tickHost g u room) (t .ensures .1) in
+    let list = r .ensures .1 .1 ∙ ap (λ (g : Host). tickList g (a .u) (a .out .now)) (t .ensures .1) in
+    let said : saysTick (r .result .answer) ≡ tickSays h (a .u) room = r .ensures .1 .0 ∙ ap (λ (g : Host). tickSays g (a .u) room) (t .ensures .1) in
+    let w = c .before .before .answer .given .0 .0 in
+    let tells : saysTick (Refused w) ≡ tickSays h (a .u) room = ap saysTick (sym (c .before .before .answer .given .1)) ∙ said in
+    let same = ap (λ (s : SaidTick). s .refusal) tells ∙ said-tick (tickRefusal h (a .u) room) _ in
+    let whole : number w ≡ tickNumber (saysTick (Refused w)) = omega arith in (
+      sym (ap (λ (b : Bool). cond b (hostMemory (r .result .host)) (a .memory)) (not-none w)) ∙ left-fitting (a .memory) (number w) _ (afterTick h u) h (r .result .host) host same yes,
+      (c .number-of .ensures ∙ whole ∙ ap tickNumber tells ∙ rw yes refl, list ∙ rw yes refl),
+    )
 
--- src/calls.rt:116:1
 same-length-2 : tie.Need-same-length-2
 same-length-2 c = search needs
 
--- src/calls.rt:116:1
 returns-3 : tie.Need-returns-3
-returns-3 c = ?
+returns-3 c =
+    let a = c .before .before .before .before .before .before .before .before .before .before .before .before .before .before .args in
+    let t = c .before .before .before .before .before .before .before .before .before .before .before .before .host-from in
+    let r = c .before .before .before .before .before .before .before .after-tick in
+    let u : Reading = record { 0 = a .u } in
+    let h : Host = hostFrom (a .memory) in
+    let room : ℕ = length (a .out .now) in
+    let yes : fits (a .memory) ≡ true = sym (t .ensures .0) ∙ not-false _ (c .before .before .before .before .before .before .before .before .before .before .if1 .left) in
+    let host : r .result .host ≡ tickHost h u room = r .ensures .0 ∙ ap (λ (g : Host). tickHost g u room) (t .ensures .1) in
+    let list = r .ensures .1 .1 ∙ ap (λ (g : Host). tickList g (a .u) (a .out .now)) (t .ensures .1) in
+    let said : saysTick (r .result .answer) ≡ tickSays h (a .u) room = r .ensures .1 .0 ∙ ap (λ (g : Host). tickSays g (a .u) room) (t .ensures .1) in
+    let n = c .before .before .before .answer2 .given .0 .0 in
+    let tells : saysTick (Delivered n) ≡ tickSays h (a .u) room = ap saysTick (sym (c .before .before .before .answer2 .given .1)) ∙ said in
+    let same = ap (λ (s : SaidTick). s .refusal) tells ∙ said-tick (tickRefusal h (a .u) room) _ in
+    let whole : 256 * n ≡ tickNumber (saysTick (Delivered n)) = omega arith in (
+      c .host-memory .ensures ∙ left-fitting (a .memory) 0 _ (afterTick h u) h (r .result .host) host same yes,
+      (whole ∙ ap tickNumber tells ∙ rw yes refl, list ∙ rw yes refl),
+    )
 
 pub left-by-tick-spec : {M : Type 1} → statement M
 left-by-tick-spec =

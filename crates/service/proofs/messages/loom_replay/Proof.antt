@@ -1,41 +1,46 @@
+-- What the report says, as one number. Assumes nothing.
 use borrow.Author.Needs.{needs}
+use mathlib.Core.Path.{_≡_, sym, ap, _∙_}
+use Prim.Native.Nat.{ℕ, _+_, _*_}
+use native.Mathlib.Omega.{arith}
+use Rattle.report.specs.Calls.{says}
+use Rattle.report.specs.declared.Told.the-variants.{Written, ShortBuffer}
+use Rattle.service.specs.Calls.{pairNumber}
+use Rattle.service.proofs.Sizes.{told-few}
 use Rattle.service.proofs.messages.loom_replay.Statement.{statement}
 use Rattle.service.proofs.messages.loom_replay.Tie as tie
-use Rattle.service.proofs.messages.loom_replay.Reads as reads
-use Rattle.service.proofs.messages.loom_replay.Lts as lts
-use Rattle.report.proofs.report.Reads as report-reads
 
--- src/messages.rt:99:9
 report-requires : tie.Need-report-requires
 report-requires c κs = search needs
 
--- src/messages.rt:101:23
 enum-known-answer : tie.Need-enum-known-answer
 enum-known-answer c = search needs
 
--- src/messages.rt:101:29
 mul-result : tie.Need-mul-result
-mul-result c = ?
+mul-result c =
+    let e = ap says (sym (c .before .answer .given .1)) ∙ c .before .before .before .before .before .report .ensures .0 in
+    omega (arith, told-few _ _ _ e)
 
--- src/messages.rt:102:30
 enum-told : tie.Need-enum-told
 enum-told c = search needs
 
--- src/messages.rt:95:1
 same-length : tie.Need-same-length
 same-length c = search needs
 
--- src/messages.rt:95:1
 returns : tie.Need-returns
-returns c = ?
+returns c =
+    let e = ap says (sym (c .before .answer .given .1)) ∙ c .before .before .before .before .before .report .ensures .0 in
+    let n = c .before .answer .given .0 .0 in
+    let whole : 256 * n ≡ pairNumber (says (Written n)) = omega arith in
+    (whole ∙ ap pairNumber e, c .before .before .before .before .before .report .ensures .1)
 
--- src/messages.rt:95:1
 same-length-2 : tie.Need-same-length-2
 same-length-2 c = search needs
 
--- src/messages.rt:95:1
 returns-2 : tie.Need-returns-2
-returns-2 c = ?
+returns-2 c =
+    let e = ap says (sym (c .enum-told .given .1)) ∙ c .before .before .before .before .report .ensures .0 in
+    (ap pairNumber e, c .before .before .before .before .report .ensures .1)
 
 pub loom-replay-spec : {M : Type 1} → statement M
 loom-replay-spec =
