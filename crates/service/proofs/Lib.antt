@@ -1,5 +1,7 @@
--- What the proofs of several functions use, and the laws for callers.
+-- What the proofs of several functions use, and the laws for callers: Through, One.
 mod Forms
 mod Converts
 mod Lefts
 mod Sizes
+pub mod Through
+pub mod One
