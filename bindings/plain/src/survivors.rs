@@ -3,91 +3,92 @@
 //! Only fault sets of exactly π hosts and exactly L links are tried. Fewer faults give no larger
 //! distance: take any two survivors, and let fail what else may. As π is at most n−2, both can be
 //! spared, and a failure never brings two survivors nearer.
+//!
+//! A relation between hosts is one number: a byte for each host, in it a bit for each host.
 
 use crate::plan::{Link, Plan, HOSTS, LINKS};
+
+type Relation = u64;
+
+const EACH_HOST: Relation = 0x0101_0101_0101_0101;
+const ITSELF: Relation = 0x8040_2010_0804_0201;
 
 /// None if some fault set leaves survivors not connected.
 pub(crate) fn worst_diameter(plan: &Plan) -> Option<u8> {
     let all = (1u32 << plan.hosts) - 1;
+    let of_size = |failed: &u32| failed.count_ones() == u32::from(plan.faulty_hosts);
     let mut worst = 0;
-    for failed in masks(u32::from(plan.hosts), u32::from(plan.faulty_hosts)) {
-        let survivors = (all & !failed) as u8;
-        worst = worst.max(worst_without_links(plan, survivors)?);
+    for failed in (0..=all).filter(of_size) {
+        worst = worst.max(worst_of_survivors(plan, (all & !failed) as u8)?);
     }
     Some(worst)
 }
 
-/// The largest diameter of these survivors over the links that may fail.
-fn worst_without_links(plan: &Plan, survivors: u8) -> Option<u8> {
-    let mut kept = [Link::default(); LINKS];
+fn worst_of_survivors(plan: &Plan, survivors: u8) -> Option<u8> {
+    let everyone = bytes_of(survivors) & u64::from(survivors) * EACH_HOST;
+    let mut links = [0; LINKS];
     let mut count = 0;
-    let mut links_at = [0u8; HOSTS];
-    for &link in plan.used() {
-        if survivors >> link.a & survivors >> link.b & 1 == 1 {
-            kept[count] = link;
+    let mut neighbours = 0;
+    for pair in plan.used().iter().map(both_ways) {
+        if pair & everyone != 0 {
+            links[count] = pair;
             count += 1;
-            links_at[usize::from(link.a)] += 1;
-            links_at[usize::from(link.b)] += 1;
+            neighbours |= pair;
         }
     }
     // A survivor with no more links than may fail can be cut off at once.
-    if (0..HOSTS).any(|i| survivors >> i & 1 == 1 && links_at[i] <= plan.faulty_links) {
+    let links_at = |host: usize| neighbours.to_le_bytes()[host].count_ones();
+    let may_fail = u32::from(plan.faulty_links);
+    if (0..HOSTS).any(|host| survivors >> host & 1 == 1 && links_at(host) <= may_fail) {
         return None;
     }
+    worst_of_links(everyone, neighbours, &links[..count], plan.faulty_links)
+}
+
+/// The largest diameter when so many of these links fail: each in turn as the first of them.
+fn worst_of_links(everyone: Relation, near: Relation, links: &[u64], failing: u8) -> Option<u8> {
+    if failing == 0 {
+        return diameter(everyone, near);
+    }
     let mut worst = 0;
-    for failed in masks(count as u32, u32::from(plan.faulty_links)) {
-        worst = worst.max(diameter(survivors, &kept[..count], failed)?);
+    for (i, link) in links.iter().enumerate() {
+        let later = &links[i + 1..];
+        worst = worst.max(worst_of_links(everyone, near & !link, later, failing - 1)?);
     }
     Some(worst)
 }
 
-/// Who is within k links of each survivor, for k rising until it is all of them; None if they never
-/// are.
-fn diameter(survivors: u8, links: &[Link], failed: u32) -> Option<u8> {
-    let each = |set: fn(usize, u8) -> u8| -> [u8; HOSTS] {
-        std::array::from_fn(|i| {
-            if survivors >> i & 1 == 1 {
-                set(i, survivors)
-            } else {
-                0
-            }
-        })
-    };
-    let everyone = each(|_, survivors| survivors);
-    let mut within = each(|i, _| 1 << i);
+/// The least k with every survivor within k links of every other.
+fn diameter(everyone: Relation, neighbours: Relation) -> Option<u8> {
+    let mut within = ITSELF & everyone;
     for k in 1..=7 {
-        let nearer = within;
-        for (i, link) in links.iter().enumerate() {
-            if failed >> i & 1 == 0 {
-                let (a, b) = (usize::from(link.a), usize::from(link.b));
-                within[a] |= nearer[b];
-                within[b] |= nearer[a];
-            }
-        }
-        if within == everyone {
+        let farther = one_link_more(within, neighbours);
+        if farther == everyone {
             return Some(k);
         }
-        if within == nearer {
+        if farther == within {
             return None;
         }
+        within = farther;
     }
     None
 }
 
-/// The sets of `ones` out of `width`, as masks, rising.
-fn masks(width: u32, ones: u32) -> impl Iterator<Item = u32> {
-    let first = (1u32 << ones) - 1;
-    std::iter::successors(Some(first), |&mask| following(mask))
-        .take_while(move |&mask| mask < 1 << width)
+/// "a host is within k links of another if it is that host, or a neighbour is within k−1"
+fn one_link_more(within: Relation, neighbours: Relation) -> Relation {
+    (0..HOSTS).fold(within, |farther, host| {
+        let of_its_neighbours = (neighbours >> host & EACH_HOST) * 0xff;
+        let within_of_it = (within >> (8 * host) & 0xff) * EACH_HOST;
+        farther | of_its_neighbours & within_of_it
+    })
 }
 
-/// The next larger mask with as many ones: the lowest run of ones gives its top one to the place
-/// above, and the rest of it falls to the bottom.
-fn following(mask: u32) -> Option<u32> {
-    if mask == 0 {
-        return None;
-    }
-    let lowest = mask & mask.wrapping_neg();
-    let carried = mask + lowest;
-    Some(carried | ((mask ^ carried) / lowest) >> 2)
+/// All bits in the byte of each of these hosts.
+fn bytes_of(hosts: u8) -> Relation {
+    let byte = |host| if hosts >> host & 1 == 1 { 0xff } else { 0 };
+    Relation::from_le_bytes(std::array::from_fn(byte))
+}
+
+fn both_ways(link: &Link) -> Relation {
+    1 << (8 * link.a + link.b) | 1 << (8 * link.b + link.a)
 }
