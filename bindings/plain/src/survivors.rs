@@ -25,7 +25,7 @@ pub(crate) fn worst_diameter(plan: &Plan) -> Option<u8> {
 }
 
 fn worst_of_survivors(plan: &Plan, survivors: u8) -> Option<u8> {
-    let everyone = bytes_of(survivors) & u64::from(survivors) * EACH_HOST;
+    let everyone = bytes_of(survivors) & (u64::from(survivors) * EACH_HOST);
     let mut links = [0; LINKS];
     let mut count = 0;
     let mut neighbours = 0;

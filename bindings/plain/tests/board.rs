@@ -106,44 +106,41 @@ fn a_share_out_of_range_is_refused_even_where_nothing_would_change() {
     }
 }
 
-/// Against a map from images to what stands there.
+type Map = std::collections::BTreeMap<u32, (Stand, u8)>;
+
+/// The table again, on a map from images to what stands there.
+fn on_map(map: &mut Map, order: Order) {
+    let image = order.image();
+    let old = map.get(&image).copied();
+    let has_room = old.is_some() || map.len() < 16;
+    match (order, old) {
+        (Order::Publish { share, .. }, None | Some((Offered, _))) if has_room => {
+            map.insert(image, (Offered, share));
+        }
+        (Order::Halt(_), None) if has_room => drop(map.insert(image, (Halted, 0))),
+        (Order::Halt(_), Some((_, share))) => drop(map.insert(image, (Halted, share))),
+        (Order::Resume(_), Some((Halted, 1..))) => map.get_mut(&image).unwrap().0 = Offered,
+        (Order::Resume(_), Some((Halted, 0))) | (Order::Withdraw(_), _) => drop(map.remove(&image)),
+        _ => {}
+    }
+}
+
 #[test]
 fn orders_by_chance() {
     let mut dice = Dice(88_172_645_463_325_252);
     let mut board = Board::EMPTY;
-    let mut map = std::collections::BTreeMap::<u32, (Stand, u8)>::new();
+    let mut map = Map::new();
     for _ in 0..20_000 {
         let image = dice.below(24) as u32;
         let share = 1 + dice.below(100) as u8;
-        let old = map.get(&image).copied();
-        let has_room = old.is_some() || map.len() < 16;
         let order = match dice.below(9) {
-            0..=2 => {
-                if has_room && old.is_none_or(|(stand, _)| stand == Offered) {
-                    map.insert(image, (Offered, share));
-                }
-                Order::Publish { image, share }
-            }
-            3..=5 => {
-                if has_room && old.is_none_or(|(stand, _)| stand == Offered) {
-                    map.insert(image, (Halted, old.map_or(0, |(_, share)| share)));
-                }
-                Order::Halt(image)
-            }
-            6 | 7 => {
-                match old {
-                    Some((Halted, 0)) => drop(map.remove(&image)),
-                    Some((Halted, share)) => drop(map.insert(image, (Offered, share))),
-                    _ => {}
-                }
-                Order::Resume(image)
-            }
-            _ => {
-                map.remove(&image);
-                Order::Withdraw(image)
-            }
+            0..=2 => Order::Publish { image, share },
+            3..=5 => Order::Halt(image),
+            6 | 7 => Order::Resume(image),
+            _ => Order::Withdraw(image),
         };
         assert_eq!(apply(&mut board, order), Ok(()));
+        on_map(&mut map, order);
         let places: Vec<_> = map
             .iter()
             .map(|(&image, &(stand, share))| (image, stand, share))

@@ -158,3 +158,26 @@ fn d_by_its_definition_on_networks_by_chance() {
     }
     assert!(accepted > 40, "{accepted}");
 }
+
+/// A ring of 7 or 8 hosts with links across it, 12 in all.
+#[test]
+fn d_by_its_definition_on_large_networks() {
+    let mut dice = Dice(0x853c_49e6_748f_ea9b);
+    let mut largest = 0;
+    for round in 0..60 {
+        let hosts = 7 + round % 2;
+        let mut links: Vec<(u8, u8)> = (1..hosts).map(|b| (b - 1, b)).collect();
+        links.push((0, hosts - 1));
+        while links.len() < 12 {
+            let [a, b] = [(); 2].map(|_| dice.below(hosts.into()) as u8);
+            if a < b && !links.contains(&(a, b)) {
+                links.insert(dice.below(5) as usize, (a, b));
+            }
+        }
+        let plan = network(hosts, dice.below(2) as u8, dice.below(2) as u8, &links);
+        let d = plain::plan(&plan).map(|planned| planned.d);
+        assert_eq!(d, by_definition(&plan).ok_or(3), "{plan:?}");
+        largest = largest.max(d.unwrap_or(0));
+    }
+    assert!(largest >= 5, "{largest}");
+}
