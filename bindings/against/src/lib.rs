@@ -2,6 +2,7 @@
 //! memory and every byte of each lent buffer must be the same.
 
 pub mod boards;
+pub mod contests;
 pub mod damage;
 pub mod dice;
 pub mod hosts;
@@ -15,4 +16,5 @@ pub mod schedules;
 pub mod sound;
 pub mod states;
 pub mod tally;
+pub mod times;
 pub mod trial;
