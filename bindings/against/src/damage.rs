@@ -2,6 +2,7 @@
 
 use crate::dice::Dice;
 use crate::plans;
+use crate::states::plan_from;
 use currentloom::memory::{HostMemory, HISTORY, LINKS};
 use currentloom::LARGEST_STAMP;
 
@@ -13,8 +14,15 @@ fn off(dice: &mut Dice, number: u64) -> u64 {
     dice.pick(&[up, down, wide, 0, u64::MAX, 1 << 63, any])
 }
 
-/// Some of it leaves the state sound.
+/// Some of it leaves the state sound. Often Δ is made to fit, so that it is not Δ that is refused.
 pub fn damage_field(dice: &mut Dice, memory: &mut HostMemory) {
+    damage_one(dice, memory);
+    if dice.one_in(2) {
+        memory.bound = plain::bound(memory.rules, &plan_from(&memory.plan), memory.d);
+    }
+}
+
+fn damage_one(dice: &mut Dice, memory: &mut HostMemory) {
     let (any, close) = (dice.byte(), dice.pick(&[1, 255]));
     match dice.below(16) {
         0 => memory.rules = dice.pick(&[0, 3, 255, memory.rules ^ 3, any]),

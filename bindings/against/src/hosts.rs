@@ -2,8 +2,8 @@
 
 use crate::damage::{damage_bytes, damage_field};
 use crate::dice::Dice;
+use crate::networks::accepted;
 use crate::orders::order;
-use crate::plans::accepted;
 use crate::sound::{sound, stamp_near};
 use crate::trial::{Difference, Trial};
 use currentloom::door::{CopyNumbers, OrderNumbers};

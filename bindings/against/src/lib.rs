@@ -8,6 +8,7 @@ pub mod dice;
 pub mod hosts;
 pub mod incidents;
 pub mod messages;
+pub mod networks;
 pub mod orders;
 pub mod plainly;
 pub mod plans;

@@ -1,56 +1,9 @@
 //! Plans, sound and not, and the making of hosts.
 
 use crate::dice::Dice;
-use crate::states::plan_from;
+use crate::networks::{network, pairs, shapes, with_links};
 use crate::trial::{Difference, Trial};
 use currentloom::memory::{HostMemory, Link, PlanFields, PlanMemory, LINKS};
-
-/// All pairs a < b of so many hosts.
-fn pairs(hosts: u8) -> Vec<Link> {
-    let ends = |b| (0..b).map(move |a| Link { a, b });
-    (0..hosts).flat_map(ends).collect()
-}
-
-fn with_links(links: &[Link]) -> [Link; LINKS] {
-    let mut places = [Link::default(); LINKS];
-    places[..links.len()].copy_from_slice(links);
-    places
-}
-
-/// A plan clear of 1 and 2. Dense networks and few faults are more common, so that many are clear
-/// of 3, too.
-pub fn network(dice: &mut Dice) -> PlanFields {
-    let hosts = 2 + dice.below(7) as u8;
-    let mut links = pairs(hosts);
-    dice.shuffle(&mut links);
-    let most = links.len().min(LINKS);
-    let any = 1 + dice.place(most);
-    links.truncate(dice.pick(&[most, most, any]));
-    let (some_hosts, some_links) = (dice.below(u64::from(hosts) - 1), dice.below(13));
-    let time = |dice: &mut Dice| {
-        let any = 1 + dice.below(64) as u8;
-        dice.pick(&[1, 3, 10, 64, any])
-    };
-    PlanFields {
-        hosts,
-        faulty_hosts: dice.pick(&[0, 0, 1.min(hosts - 2), some_hosts as u8]),
-        link_count: links.len() as u8,
-        faulty_links: dice.pick(&[0, 0, 0, 1, 2, some_links as u8]),
-        delay: time(dice),
-        skew: time(dice),
-        links: with_links(&links),
-    }
-}
-
-/// A plan that planning accepts.
-pub fn accepted(dice: &mut Dice) -> PlanFields {
-    loop {
-        let plan = network(dice);
-        if plan.faulty_links <= 2 && plain::plan(&plan_from(&plan)).is_ok() {
-            return plan;
-        }
-    }
-}
 
 /// The plan with one thing changed, for good or bad.
 pub fn changed(dice: &mut Dice, plan: &PlanFields) -> PlanFields {
@@ -133,31 +86,53 @@ pub fn some(trial: &mut Trial) -> Result<(), Difference> {
     plan_and_make(trial, plan)
 }
 
+/// A plan of these links with that many faults planned for.
+fn plan_faults(
+    trial: &mut Trial,
+    hosts: u8,
+    links: &[Link],
+    faulty_hosts: u8,
+    faulty_links: u8,
+) -> Result<(), Difference> {
+    let plan = PlanFields {
+        hosts,
+        faulty_hosts,
+        link_count: links.len() as u8,
+        faulty_links,
+        delay: 10,
+        skew: 3,
+        links: with_links(links),
+    };
+    trial.plan(&mut PlanMemory {
+        plan,
+        ..PlanMemory::default()
+    })?;
+    Ok(())
+}
+
 /// Every network of so many hosts, with every number of faulty hosts and up to so many faulty links.
-pub fn every(trial: &mut Trial, hosts: u8, faulty_links: u8) -> Result<(), Difference> {
+pub fn every(trial: &mut Trial, hosts: u8, most_links: u8) -> Result<(), Difference> {
     let pairs = pairs(hosts);
     for set in 1..1u32 << pairs.len() {
         let chosen = (0..pairs.len()).filter(|i| set >> i & 1 == 1);
         let links: Vec<_> = chosen.map(|i| pairs[i]).collect();
         for faulty_hosts in 0..=hosts - 2 {
-            for faulty_links in 0..=faulty_links {
-                let link_count = links.len() as u8;
-                let links = with_links(&links);
-                let (delay, skew) = (10, 3);
-                let plan = PlanFields {
-                    hosts,
-                    faulty_hosts,
-                    link_count,
-                    faulty_links,
-                    delay,
-                    skew,
-                    links,
-                };
+            for faulty_links in 0..=most_links {
                 trial.tally.input("plans: every network of 2 to 5 hosts");
-                trial.plan(&mut PlanMemory {
-                    plan,
-                    ..PlanMemory::default()
-                })?;
+                plan_faults(trial, hosts, &links, faulty_hosts, faulty_links)?;
+            }
+        }
+    }
+    Ok(())
+}
+
+/// Lines, rings, stars, the cube and so on, with every number of faulty hosts.
+pub fn shaped(trial: &mut Trial, most_links: u8) -> Result<(), Difference> {
+    for (hosts, links) in shapes() {
+        for faulty_hosts in 0..=hosts - 2 {
+            for faulty_links in 0..=most_links {
+                trial.tally.input("plans: lines, rings, cube and so on");
+                plan_faults(trial, hosts, &links, faulty_hosts, faulty_links)?;
             }
         }
     }

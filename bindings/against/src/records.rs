@@ -1,8 +1,8 @@
 //! Schedules as records, written by the build paper's rules and then changed.
 
 use crate::dice::Dice;
+use crate::networks::accepted;
 use crate::orders::formed;
-use crate::plans::accepted;
 use currentloom::memory::PlanFields;
 
 /// A tag and its value.

@@ -1,8 +1,8 @@
 //! Sound states of every kind, also such as no run gets to.
 
 use crate::dice::Dice;
+use crate::networks::{accepted, network};
 use crate::orders::formed;
-use crate::plans::{accepted, network};
 use crate::states::plan_from;
 use currentloom::memory::{HeldMemory, HostMemory, HISTORY, STARTS};
 use currentloom::{LARGEST_READING, LARGEST_STAMP};

@@ -14,9 +14,7 @@ fn rounds(tally: &mut Tally, kind: &str, count: u64, round: Round) -> Result<(),
     let began = Instant::now();
     let before = tally.calls();
     for i in 0..count {
-        let seed = kind
-            .bytes()
-            .fold(i << 8, |seed, byte| seed * 31 + u64::from(byte));
+        let seed = seed_of(kind, i);
         let mut trial = Trial::new(std::mem::take(tally), seed);
         let judged = round(&mut trial);
         *tally = trial.tally;
@@ -25,6 +23,12 @@ fn rounds(tally: &mut Tally, kind: &str, count: u64, round: Round) -> Result<(),
     let (calls, time) = (tally.calls() - before, began.elapsed().as_secs_f64());
     println!("{kind}: {count} rounds, {calls} calls, all the same ({time:.1} s)");
     Ok(())
+}
+
+/// The kind's letters and the round's number, mixed.
+fn seed_of(kind: &str, round: u64) -> u64 {
+    let mix = |seed: u64, byte| seed.wrapping_mul(31).wrapping_add(u64::from(byte));
+    kind.bytes().fold(round << 8, mix)
 }
 
 fn all(tally: &mut Tally, times: u64) -> Result<(), String> {
@@ -36,7 +40,7 @@ fn all(tally: &mut Tally, times: u64) -> Result<(), String> {
         if is_long {
             plans::every(trial, 5, 4)?;
         }
-        Ok(())
+        plans::shaped(trial, 3)
     })?;
     rounds(tally, "plans", 2_000 * times, &mut plans::some)?;
     rounds(tally, "host walks", 2_000 * times, &mut hosts::walk)?;
