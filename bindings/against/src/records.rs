@@ -18,7 +18,7 @@ pub fn bytes(records: &[Record]) -> Vec<u8> {
     bytes
 }
 
-/// So many of the first bits, each at most once, and none of them by half.
+/// Up to so many of the first bits.
 fn some_bits(dice: &mut Dice, most: u8, among: u8) -> u16 {
     let mut bits = 0;
     for _ in 0..dice.below(u64::from(most) + 1) {

@@ -38,6 +38,11 @@ fn count_refusals(trial: &mut Trial, text: &[u8]) {
         }
     }
     trial.tally.answer(Call::File, of_file);
+    if text.contains("\nhost ") {
+        trial
+            .tally
+            .input("schedules: of all these, runs that deliver");
+    }
 }
 
 /// A schedule within the rules, then one or two records of it changed, then some bytes.

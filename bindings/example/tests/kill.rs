@@ -9,7 +9,7 @@ use std::time::{Duration, SystemTime, UNIX_EPOCH};
 const PLAN: &str = concat!(env!("CARGO_MANIFEST_DIR"), "/ring.plan");
 /// π·δ + d·δ + ε with π 1, d 2, δ 30, ε 3.
 const BOUND: u64 = 93;
-/// Longer than anything takes, on a busy machine too.
+/// Longer than anything here takes.
 const PATIENCE: Duration = Duration::from_secs(20);
 
 struct Process {

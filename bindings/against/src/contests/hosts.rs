@@ -34,15 +34,29 @@ pub fn start() -> Contest {
     }
 }
 
-pub fn receive(name: &'static str, stamp: u64, refusal: u64) -> Contest {
+pub fn receive() -> Contest {
     let (memory, plain) = host(16);
-    let answer = door::receive(&mut memory.clone(), 110, 0, copy(stamp));
-    assert_eq!(answer & 0xff, refusal);
-    let (ours, theirs) = (copy(stamp), message(stamp));
+    let (ours, theirs) = (copy(106), message(106));
+    let answer = door::receive(&mut memory.clone(), 110, 0, ours);
+    assert_eq!(answer & 0xff, 0);
     Contest {
-        name,
+        name: "receive, accepted, 16 held",
         ours: over(move || door::receive(&mut black_box(memory), 110, 0, ours)),
         plain: over(move || plain::receive(&mut black_box(plain), Reading(110), 0, &theirs)),
+    }
+}
+
+/// The state stays as it is.
+pub fn receive_held() -> Contest {
+    let (mut memory, mut plain) = host(16);
+    let (ours, theirs) = (copy(95), message(95));
+    assert_eq!(door::receive(&mut memory, 110, 0, ours), 19);
+    let ours = move || door::receive(black_box(&mut memory), 110, 0, ours);
+    let theirs = move || plain::receive(black_box(&mut plain), Reading(110), 0, &theirs);
+    Contest {
+        name: "receive, refused 19, 16 held",
+        ours: over(ours),
+        plain: over(theirs),
     }
 }
 
