@@ -7,6 +7,10 @@ use against::{boards, hosts, incidents, messages, plans, schedules};
 use std::process::ExitCode;
 use std::time::Instant;
 
+/// How many times the rounds that `all` names.
+const SHORT: u64 = 6;
+const LONG: u64 = 100;
+
 type Round<'a> = &'a mut dyn FnMut(&mut Trial) -> Result<(), Difference>;
 
 /// Rounds of one kind. Each has a seed of its own, which a difference is printed with.
@@ -32,7 +36,7 @@ fn seed_of(kind: &str, round: u64) -> u64 {
 }
 
 fn all(tally: &mut Tally, times: u64) -> Result<(), String> {
-    let is_long = times > 1;
+    let is_long = times > SHORT;
     rounds(tally, "every network", 1, &mut |trial| {
         for (hosts, faulty_links) in [(2, 12), (3, 12), (4, 6)] {
             plans::every(trial, hosts, faulty_links)?;
@@ -63,8 +67,8 @@ fn all(tally: &mut Tally, times: u64) -> Result<(), String> {
 fn main() -> ExitCode {
     let arguments: Vec<String> = std::env::args().skip(1).collect();
     let times = match arguments.iter().map(String::as_str).collect::<Vec<_>>()[..] {
-        [] => 20,
-        ["--short"] => 1,
+        [] => LONG,
+        ["--short"] => SHORT,
         _ => {
             eprintln!("usage: against [--short]");
             return ExitCode::from(2);
