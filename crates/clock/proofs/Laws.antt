@@ -1,14 +1,12 @@
 -- What callers use of clocks. Assumes nothing.
 use mathlib.Core.Path.{_≡_, ap}
-use Prim.Native.Nat.{ℕ, _+_, _-_, _≤_, _<_}
+use Prim.Native.Nat.{ℕ, _+_, _-_, _≤_}
 use native.Mathlib.Omega.{arith}
 use borrow.Author.Tests.{le-leb}
 use Rattle.clock.specs.Clock.{largestReading, reading, shown, showing}
 use Rattle.clock.specs.declared.Reading.{Reading}
 use Rattle.clock.specs.declared.Tick.{Tick}
-use Rattle.clock.specs.declared.Shown.{Shown}
 use Rattle.clock.specs.declared.Shown.the-variants as shown-as
-use Rattle.clock.specs.declared.Showing.{Showing}
 use Rattle.clock.specs.declared.Showing.the-variants as showing-as
 
 -- ---- a clock's reading leads back to its tick, and no other tick has it
@@ -28,6 +26,3 @@ showing-shown u offset l h =
     simp (le-leb _ _ low) (ap (λ (n : ℕ). shown-as.At (record { 0 = n })) back)
 
 -- ---- clocks run at one rate: what comes later reads more
-
-pub later-reads-more : (t u : Tick) (offset : ℕ) → t .0 < u .0 → reading t offset .0 < reading u offset .0
-later-reads-more t u offset h = omega arith

@@ -13,7 +13,6 @@ use host::Held;
 use host::Host;
 use schedule::Answer;
 ghost use mathlib.Core.Path.{_≡_};
-ghost use lib.Dec.{eqb};
 ghost use Rattle.schedule.specs.Calls.{says, answered};
 ghost use Rattle.engine.specs.Calls.{outcomeOf};
 ghost use Rattle.engine.specs.Inside.{InPlaces};
@@ -71,23 +70,10 @@ pub fn run(bytes: &[u8]) -> Ran
     let found = schedule::read(bytes);
     let answer = found.answer;
     let schedule = found.schedule;
-    if !is_accepted(answer) {
+    if schedule::number_of(answer) != 0 {
         let outcome = opening::no_outcome();
         return Ran { answer, outcome };
     }
     let outcome = playing::play_all(schedule);
     Ran { answer, outcome }
-}
-
-fn is_accepted(answer: Answer) -> bool
-    ensures { λ r. ⌜ r ≡ eqb (says answer .0) 0 ⌝ }
-{
-    match answer {
-        Answer::Accepted => true,
-        Answer::NotASchedule => false,
-        Answer::OutOfRange => false,
-        Answer::BadLink => false,
-        Answer::Parted => false,
-        Answer::OutsideRules(_) => false,
-    }
 }

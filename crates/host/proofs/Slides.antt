@@ -1,9 +1,9 @@
 -- The last four starts with one more: put behind fewer than four, or in place of the oldest of four. Assumes nothing.
 use mathlib.Core.Path.{_≡_, refl, sym, ap, _∙_}
 use mathlib.Core.List.{List, [], _∷_, _++_}
-use Prim.Native.Nat.{ℕ, _+_, _-_, _≤_, _<_}
+use Prim.Native.Nat.{ℕ, _+_, _-_, _<_}
 use native.Mathlib.Omega.{arith}
-use lib.ListN.{length, take, drop, getD, set, length-append, length-drop}
+use lib.ListN.{length, drop, getD, set, length-append, length-drop}
 use Rattle.lists.specs.Lists.{pad}
 use Rattle.lists.proofs.Places.{pad-more}
 use Rattle.clock.specs.declared.Reading.{Reading}
@@ -34,17 +34,3 @@ in-place (a ∷ b ∷ []) u h = absurd (omega arith)
 in-place (a ∷ b ∷ c ∷ []) u h = absurd (omega arith)
 in-place (a ∷ b ∷ c ∷ d ∷ []) u h = refl
 in-place (a ∷ b ∷ c ∷ d ∷ e ∷ l) u h = absurd (omega arith)
-
--- ---- the starts as numbers, the last first
-
-abbrev pub lastFirst : List Reading → List ℕ
-lastFirst [] = []
-lastFirst (s ∷ l) = lastFirst l ++ (s .0 ∷ [])
-
-pub last-first : (l : List Reading) (u : Reading) → length l ≤ 4 → lastFirst (withStart l u) ≡ take 4 (u .0 ∷ lastFirst l)
-last-first [] u h = refl
-last-first (a ∷ []) u h = refl
-last-first (a ∷ b ∷ []) u h = refl
-last-first (a ∷ b ∷ c ∷ []) u h = refl
-last-first (a ∷ b ∷ c ∷ d ∷ []) u h = refl
-last-first (a ∷ b ∷ c ∷ d ∷ e ∷ l) u h = absurd (omega arith)

@@ -2,14 +2,14 @@
 use mathlib.Core.Path.{_≡_, refl, sym, ap, _∙_}
 use mathlib.Core.Bool.{Bool, true, false}
 use mathlib.Core.List.{[], _∷_, _++_}
-use Prim.Native.Nat.{ℕ, zero, suc, _+_, _≤_, _<_}
+use Prim.Native.Nat.{ℕ, zero, suc, _+_, _<_}
 use native.Mathlib.Nat.{sub-zero}
 use native.Mathlib.Numerals.{add-one}
 use native.Mathlib.Omega.{arith}
 use borrow.Author.Tests.{eqb-true, eqb-false}
 use lib.Dec.{eqb}
 use lib.ListN.{length, getD, set, replicate, length-append, length-replicate, length-set, getD-replicate, List·getD-append}
-use lib.Seq.{getD-at, getD-set-same, getD-set-other, set-out, ext-getD}
+use lib.Seq.{getD-at, getD-set-same, getD-set-other, ext-getD}
 use Rattle.lists.specs.Lists.{pad, listed}
 use Rattle.lists.specs.Searches.{lastOf}
 use Rattle.lists.proofs.Places.{pad-more}
@@ -79,6 +79,3 @@ module _ {A : Type 0} where
             getD-set-other (listed N (setBy n)) (at n) i (v n) z (λ q. eqb-false (at n) i e (sym q))
             ∙ getD-listed N (setBy n) i z h
             ∙ sym (getD-listed N (setBy (n + 1)) i z h ∙ lastOf-next (λ j. eqb (at j) i) v z n ∙ (rw e))
-
-    pub table-past : (n : ℕ) → N ≤ at n → listed N (setBy n) ≡ listed N (setBy (n + 1))
-    table-past n h = let l = length-listed N (setBy n) in sym (set-out (listed N (setBy n)) (at n) (v n) (omega arith)) ∙ table-next n

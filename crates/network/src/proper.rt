@@ -1,8 +1,10 @@
 // Refusals 1 and 2: the plan's numbers, and its links.
+use crate::Link;
 use crate::Plan;
 ghost use mathlib.Core.Path.{_≡_};
 ghost use mathlib.Core.Bool.{_&&_, not};
 ghost use Prim.Native.Nat.{_<_, _≤_};
+ghost use lib.Dec.{eqb};
 ghost use Rattle.lists.specs.Searches.{some};
 ghost use Rattle.network.specs.Network.{inRange, same, badLink, badLinks};
 
@@ -60,9 +62,12 @@ fn repeats(p: Plan, i: usize) -> bool
     requires { ⌜ i < 12 ⌝ }
     ensures { λ r. ⌜ r ≡ some i (same p i) ⌝ }
 {
+    let links = p.links;
+    let l = links[i];
     let mut j: usize = 0;
     while j < i {
-        if is_same(p, i, j) {
+        let q = links[j];
+        if is_same(l, q) {
             return true;
         }
         j += 1;
@@ -70,12 +75,8 @@ fn repeats(p: Plan, i: usize) -> bool
     false
 }
 
-// Whether links i and j are one pair.
-fn is_same(p: Plan, i: usize, j: usize) -> bool
-    requires { ⌜ (i < 12) × (j < 12) ⌝ }
-    ensures { λ r. ⌜ r ≡ same p i j ⌝ }
+fn is_same(l: Link, q: Link) -> bool
+    ensures { λ r. ⌜ r ≡ (eqb (l .a) (q .a) && eqb (l .b) (q .b)) ⌝ }
 {
-    let l = p.links[i];
-    let q = p.links[j];
     (l.a == q.a) & (l.b == q.b)
 }

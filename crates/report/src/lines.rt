@@ -16,6 +16,8 @@ use engine::Outcome;
 use host::Held;
 use orders::Order;
 use schedule::Answer;
+use schedule::index_of;
+use schedule::number_of;
 
 // The line of a refused file, or all lines of a run.
 pub(crate) fn text(out: &mut [u8], answer: Answer, outcome: Outcome) -> usize
@@ -27,33 +29,6 @@ pub(crate) fn text(out: &mut [u8], answer: Answer, outcome: Outcome) -> usize
         return whole(out, outcome);
     }
     refused(out, number, index_of(answer))
-}
-
-fn number_of(answer: Answer) -> u8
-    ensures { λ r. ⌜ r ≡ says answer .0 ⌝ }
-{
-    match answer {
-        Answer::Accepted => 0,
-        Answer::NotASchedule => 31,
-        Answer::OutOfRange => 1,
-        Answer::BadLink => 2,
-        Answer::Parted => 3,
-        Answer::OutsideRules(_) => 32,
-    }
-}
-
-// The index of the record outside the rules; 0 of any other answer.
-fn index_of(answer: Answer) -> usize
-    ensures { λ r. ⌜ r ≡ says answer .1 ⌝ }
-{
-    match answer {
-        Answer::Accepted => 0,
-        Answer::NotASchedule => 0,
-        Answer::OutOfRange => 0,
-        Answer::BadLink => 0,
-        Answer::Parted => 0,
-        Answer::OutsideRules(index) => index,
-    }
 }
 
 fn refused(out: &mut [u8], number: u8, index: usize) -> usize

@@ -32,3 +32,9 @@ one-answered = one-answer says answerOf answer-back
 
 pub read-one : (bs : List ℕ) (r s : Found) → Right bs r → Right bs s → (r .answer ≡ s .answer) × (r .schedule ≡ s .schedule)
 read-one bs r s x y = (one-answered (r .answer) (s .answer) (x .0) (y .0), one-result (x .1) (y .1))
+
+pub number-of-one : (a : Answer) (m n : ℕ) → m ≡ says a .0 → n ≡ says a .0 → m ≡ n
+number-of-one a m n = one-result
+
+pub index-of-one : (a : Answer) (m n : ℕ) → m ≡ says a .1 → n ≡ says a .1 → m ≡ n
+index-of-one a m n = one-result

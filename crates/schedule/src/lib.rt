@@ -1,10 +1,13 @@
 // A schedule, read from any bytes: the plan, the fault set, the clocks' offsets, the starts and the delay of each copy; or what is wrong first.
+mod answers;
 mod fates;
 mod rules;
 mod shape;
 mod starts;
 mod taking;
 
+pub use answers::index_of;
+pub use answers::number_of;
 use clock::Tick;
 use network::Bounds;
 use network::Faults;
