@@ -13,12 +13,17 @@ use lib.Seq.{length-take-le, getD-take}
 use Rattle.lists.proofs.Loops.{all-at}
 use Rattle.lists.proofs.Places.{splice-long}
 use Rattle.board.specs.declared.Stand.{Stand}
-use Rattle.board.specs.declared.Stand.the-variants.{Absent}
+use Rattle.board.specs.declared.Stand.the-variants.{Absent, Offered, Halted}
 use Rattle.board.specs.declared.Place.{Place}
-use Rattle.board.specs.Board.{placeFits, isAbsent, blank, settle, unlessFull, holding}
+use Rattle.board.specs.Board.{standFits, placeFits, isAbsent, blank, settle, unlessFull, holding}
 use Rattle.board.specs.Inside.{Known}
 use Rattle.board.proofs.Placing.{stands-here, absent-here, absent-last, settle-here, settle-new}
 use Rattle.board.proofs.Boards.{images-long, holds-itself}
+
+fits-present : (s : Stand) → standFits s ≡ true → isAbsent s ≡ true → ⊥
+fits-present Absent f e = true≢false (sym f)
+fits-present (Offered share) f e = true≢false (sym e)
+fits-present (Halted share) f e = true≢false (sym e)
 
 unless-same : (t : Bool) (l : List Place) → cond t l l ≡ l
 unless-same true l = refl
