@@ -4,7 +4,7 @@ use mathlib.Core.Path.{_≡_, refl, sym, ap, subst, _∙_}
 use mathlib.Core.Logic.{_⊎_}
 use mathlib.Core.Bool.{Bool, true, false, not, cond}
 use mathlib.Core.List.{List, []}
-use Prim.Native.Nat.{ℕ, _+_, _*_, _≤_, _<_}
+use Prim.Native.Nat.{ℕ, _+_, _*_, _≤_, _<_, zero-le}
 use native.Mathlib.Nat.{le-refl}
 use borrow.Author.Tests.{not-true, leb-true, leb-false, le-leb, lt-leb, eqb-true}
 use lib.Dec.{eqb}
@@ -14,18 +14,19 @@ use Rattle.lists.specs.Members.{In}
 use Rattle.lists.proofs.MemberLaws.{in-keep, keep-in}
 use Rattle.lists.proofs.Listed.{in-insert, insert-new, insert-old, member-none, keep-none, keep-again, member-all}
 use Rattle.lists.proofs.Order.{keep-rising}
+use Rattle.lists.proofs.Rises.{once}
 use Rattle.lists.proofs.Places.{take-pad, length-pad}
 use Rattle.clock.specs.declared.Reading.{Reading}
 use Rattle.orders.specs.declared.Order.{Order}
 use Rattle.host.specs.declared.Held.{Held}
 use Rattle.host.specs.declared.Host.{Host}
-use Rattle.host.specs.State.{noReading, noHeld, startsOf, heldOf, before, sound, Sized, at}
+use Rattle.host.specs.State.{noReading, noHeld, startsOf, heldOf, sameName, before, sound, Sized, at}
 use Rattle.host.specs.Answers.{unless}
 use Rattle.host.specs.Start.{withStart, startOf, startRefusal, startHost}
 use Rattle.host.specs.Receive.{receiveRefusal, receiveHost}
 use Rattle.host.specs.Tick.{due, dueOf, waitingOf, tickRefusal, afterTick, tickHost}
 use Rattle.host.specs.Calls.{Call, start, receive, ticks, refusal, becomes, after}
-use Rattle.host.proofs.Names.{before-trans}
+use Rattle.host.proofs.Names.{before-trans, before-other, name-swap}
 use Rattle.host.proofs.Facts.{SoundIs, sound-is, is-sound, start-is, receive-is, tick-is, tick-runs}
 use Rattle.host.proofs.Keeps.{start-keeps, receive-keeps, tick-keeps, starts-most, insert-few}
 
@@ -153,6 +154,10 @@ held-rises h s = sound-is h s .rise
 -- what a tick delivers rises strictly by stamp and source
 pub due-rises : (h : Host) (u : ℕ) → sound h ≡ true → rising before (dueOf h u) ≡ true
 due-rises h u s = keep-rising before before-trans (due (h .bound) u) (heldOf h) (held-rises h s)
+
+-- a name is held once
+pub held-once : (h : Host) → sound h ≡ true → (x y : Held) → In x (heldOf h) → In y (heldOf h) → sameName x y ≡ true → x ≡ y
+held-once h s x y i j e = once before before-trans (heldOf h) (held-rises h s) x y i j (before-other x y e) (before-other y x (name-swap x y e))
 
 -- ---- starts
 
