@@ -1,4 +1,5 @@
 // A board filled to its last place, and orders drawn from a fixed seed.
+use crate::lent;
 use crate::show;
 use board::Board;
 use orders::Order;
@@ -11,16 +12,16 @@ pub(crate) fn full() {
         b = after(b, Order::Halt(32 - 2 * i));
         i += 1;
     }
-    show::applied(board::after_order(
+    show::applied(lent::after_order(
         b,
         Order::Publish {
             image: 7,
             share: 50,
         },
     ));
-    show::applied(board::after_order(b, Order::Halt(7)));
-    show::applied(board::after_order(b, Order::Resume(7)));
-    show::applied(board::after_order(
+    show::applied(lent::after_order(b, Order::Halt(7)));
+    show::applied(lent::after_order(b, Order::Resume(7)));
+    show::applied(lent::after_order(
         b,
         Order::Publish {
             image: 8,
@@ -28,9 +29,9 @@ pub(crate) fn full() {
         },
     ));
     b = after(b, Order::Withdraw(32));
-    show::applied(board::after_order(b, Order::Halt(1)));
+    show::applied(lent::after_order(b, Order::Halt(1)));
     b = after(b, Order::Resume(2));
-    show::applied(board::after_order(
+    show::applied(lent::after_order(
         b,
         Order::Publish {
             image: 40,
@@ -40,7 +41,7 @@ pub(crate) fn full() {
 }
 
 fn after(b: Board, order: Order) -> Board {
-    let a = board::after_order(b, order);
+    let a = lent::after_order(b, order);
     let next = a.board;
     next
 }
@@ -51,7 +52,7 @@ pub(crate) fn many(count: u64) {
     let mut i: u64 = 0;
     while i < count {
         let order = drawn(seed);
-        show::applied(board::after_order(b, order));
+        show::applied(lent::after_order(b, order));
         b = after(b, order);
         seed = next(next(next(seed)));
         i += 1;

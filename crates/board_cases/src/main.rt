@@ -1,6 +1,7 @@
 // The twelve cells of the board's table, boards that are not sound, a full board, and orders drawn from a fixed seed; a line for each answer.
 // What the lines should be is worked out by checks/board.py, which reads 01 on its own.
 mod drawn;
+mod lent;
 mod show;
 
 use board::Board;
@@ -21,16 +22,16 @@ fn main() {
 // Each order on image 7 where it stands so.
 fn cells(stand: Stand) {
     let b = only(7, stand);
-    show::applied(board::after_order(
+    show::applied(lent::after_order(
         b,
         Order::Publish {
             image: 7,
             share: 45,
         },
     ));
-    show::applied(board::after_order(b, Order::Halt(7)));
-    show::applied(board::after_order(b, Order::Resume(7)));
-    show::applied(board::after_order(b, Order::Withdraw(7)));
+    show::applied(lent::after_order(b, Order::Halt(7)));
+    show::applied(lent::after_order(b, Order::Resume(7)));
+    show::applied(lent::after_order(b, Order::Withdraw(7)));
 }
 
 // The board with that image standing so; the empty board where it is absent.
@@ -61,34 +62,34 @@ fn unsound() {
     let out = Order::Publish { image: 9, share: 0 };
     let mut b = empty();
     b.count = 17;
-    show::applied(board::after_order(b, out));
+    show::applied(lent::after_order(b, out));
     b.count = 1;
-    show::applied(board::after_order(b, out));
-    show::applied(board::after_order(only(0, Stand::Offered(0)), out));
-    show::applied(board::after_order(only(0, Stand::Offered(101)), out));
-    show::applied(board::after_order(only(0, Stand::Halted(101)), out));
+    show::applied(lent::after_order(b, out));
+    show::applied(lent::after_order(only(0, Stand::Offered(0)), out));
+    show::applied(lent::after_order(only(0, Stand::Offered(101)), out));
+    show::applied(lent::after_order(only(0, Stand::Halted(101)), out));
     b = only(5, Stand::Offered(100));
     b.places[1] = Place {
         image: 5,
         stand: Stand::Halted(100),
     };
-    show::applied(board::after_order(b, out));
+    show::applied(lent::after_order(b, out));
     b.count = 2;
-    show::applied(board::after_order(b, out));
+    show::applied(lent::after_order(b, out));
     b.places[1] = Place {
         image: 6,
         stand: Stand::Halted(100),
     };
-    show::applied(board::after_order(b, out));
-    show::applied(board::after_order(
+    show::applied(lent::after_order(b, out));
+    show::applied(lent::after_order(
         b,
         Order::Publish {
             image: 9,
             share: 101,
         },
     ));
-    show::applied(board::after_order(b, Order::Publish { image: 9, share: 1 }));
-    show::applied(board::after_order(
+    show::applied(lent::after_order(b, Order::Publish { image: 9, share: 1 }));
+    show::applied(lent::after_order(
         b,
         Order::Publish {
             image: 6,

@@ -1,4 +1,7 @@
 // A call as a row of numbers, and what the host makes of it.
+use crate::lent::after_receive;
+use crate::lent::after_start;
+use crate::lent::after_tick;
 use crate::show;
 use clock::Reading;
 use host::Held;
@@ -52,7 +55,7 @@ fn make(row: Row) -> Host {
 }
 
 fn start(host: Host, row: Row) -> Host {
-    let r = host::after_start(host, Reading(row.u), order(row));
+    let r = after_start(host, Reading(row.u), order(row));
     let answer = r.answer;
     show::acted(b"start", answer, r.host);
     r.host
@@ -64,7 +67,7 @@ fn receive(host: Host, row: Row) -> Host {
         source: row.source,
         order: order(row),
     };
-    let r = host::after_receive(host, Reading(row.u), row.arrival, row.hop, copy);
+    let r = after_receive(host, Reading(row.u), row.arrival, row.hop, copy);
     let answer = r.answer;
     show::acted(b"receive", answer, r.host);
     r.host
@@ -74,7 +77,7 @@ fn receive(host: Host, row: Row) -> Host {
 fn tick(host: Host, row: Row) -> Host {
     let mut out = lent();
     let room = (row.stamp % 601) as usize;
-    let r = host::after_tick(host, Reading(row.u), &mut out[..room]);
+    let r = after_tick(host, Reading(row.u), &mut out[..room]);
     let answer = r.answer;
     show::ticked(answer, &out, r.host);
     r.host
@@ -132,7 +135,7 @@ fn filled(host: Host, count: u64) -> Host {
             source: 0,
             order: Order::Halt(7),
         };
-        let r = host::after_receive(h, Reading(1000), 0, 1, copy);
+        let r = after_receive(h, Reading(1000), 0, 1, copy);
         h = r.host;
     }
     h

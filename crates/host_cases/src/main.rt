@@ -1,6 +1,7 @@
 // A line for the answer to each call, and the state after it: the calls of standard input, and calls drawn from a seed.
 mod calls;
 mod drawn;
+mod lent;
 mod rows;
 mod show;
 
