@@ -2,6 +2,7 @@
 pub mod Bits
 pub mod Sizes
 pub mod Ranges
+mod Repeats
 pub mod Distances
 mod Masks
 pub mod Connected

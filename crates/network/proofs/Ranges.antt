@@ -1,15 +1,16 @@
 -- What the tests of a plan say of its numbers and links, and how large Δ and W can be. Assumes nothing.
-use mathlib.Core.Path.{_≡_}
-use mathlib.Core.Bool.{Bool, true, false, cond}
+use mathlib.Core.Path.{_≡_, refl, sym, _∙_}
+use mathlib.Core.Bool.{Bool, true, false, cond, true≢false}
 use Prim.Native.Nat.{ℕ, _+_, _*_, _≤_, _<_}
 use native.Mathlib.Omega.{arith}
-use native.Mathlib.Nat.{mul-le-mul}
-use lib.Dec.{eqb}
-use borrow.Author.Tests.{leb-true, leb-false}
-use Rattle.lists.proofs.TestLaws.{all-each, none-each}
+use native.Mathlib.Nat.{mul-le-mul, le-antisymm}
+use lib.Dec.{eqb, ltb}
+use borrow.Author.Tests.{leb-true, leb-false, ltb-true, ltb-false, eqb-true, eq-eqb}
+use Rattle.lists.proofs.TestLaws.{all-each, each-all, none-each}
+use Rattle.lists.proofs.Bools.{and-left, and-right}
 use Rattle.lists.proofs.SearchLaws.{some-false}
-use Rattle.network.specs.Network.{n, m, π, L, δ, ε, link, inRange, badLink, badLinks, bound, window}
-use Rattle.network.specs.Inside.{Small}
+use Rattle.network.specs.Network.{n, m, π, L, δ, ε, link, inRange, same, badLink, badLinks, bound, window}
+use Rattle.network.specs.Inside.{Small, isPair}
 use Rattle.network.specs.declared.Plan.{Plan}
 
 pub record Ranges (p : Plan) : Type 0 where
@@ -53,10 +54,37 @@ ends p e i h =
     let t = none-each _ (some-false (badLink p) (m p) e i h) in
     record { a-host = leb-false _ _ (t .0); b-host = leb-false _ _ (t .1 .0); a-below-b = leb-false _ _ (t .1 .1 .0) }
 
+-- links that are one pair are one link
+once : (p : Plan) → badLinks p ≡ false → (i j : ℕ) → i < m p → j < m p → isPair p (link p i .a) (link p i .b) j ≡ true → i ≡ j
+unfolding badLinks badLink same isPair
+once p e i j h l q = go (ltb i j) refl (ltb j i) refl
+  where
+    a-same : link p i .a ≡ link p j .a
+    a-same = eqb-true _ _ (and-left (eqb (link p i .a) (link p j .a)) _ q)
+
+    b-same : link p i .b ≡ link p j .b
+    b-same = eqb-true _ _ (and-right (eqb (link p i .a) (link p j .a)) _ q)
+
+    no : (k : ℕ) → k < m p → (o : ℕ) → o < k → link p k .a ≡ link p o .a → link p k .b ≡ link p o .b → ⊥
+    no k hk o lt ea eb =
+        let t = none-each _ (some-false (badLink p) (m p) e k hk) in
+        true≢false (sym (each-all _ (eq-eqb _ _ ea, (eq-eqb _ _ eb, tt))) ∙ some-false (same p k) k (t .1 .1 .1 .0) o lt)
+
+    go : (t : Bool) → ltb i j ≡ t → (u : Bool) → ltb j i ≡ u → i ≡ j
+    go true x u y = absurd (no j l i (ltb-true i j x) (sym a-same) (sym b-same))
+    go false x true y = absurd (no i h j (ltb-true j i y) a-same b-same)
+    go false x false y = le-antisymm (ltb-false j i y) (ltb-false i j x)
+
 pub small : (p : Plan) → inRange p ≡ true → badLinks p ≡ false → Small p
 small p r e =
     let s = ranges p r in
-    record { hosts = s .hosts-high; links = s .links-high; ends = λ i h. let k = ends p e i h in (omega arith, omega arith) }
+    record {
+      some-hosts = omega arith;
+      hosts = s .hosts-high;
+      links = s .links-high;
+      ends = λ i h. let k = ends p e i h in (k .a-below-b, k .b-host);
+      once = once p e;
+    }
 
 -- ---- Δ and W grow with the numbers they are made of: here A bounds π, B bounds d, C bounds δ and E bounds ε
 

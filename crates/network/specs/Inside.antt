@@ -1,16 +1,53 @@
 -- Notions that only private contracts cite. Assumes nothing.
-use mathlib.Core.Bool.{Bool, _||_}
-use Prim.Native.Nat.{ℕ, _≤_, _<_}
+use mathlib.Core.Path.{_≡_}
+use mathlib.Core.Bool.{Bool, true, not, _&&_, _||_}
+use Prim.Native.Nat.{ℕ, suc, _+_, _*_, _≤_, _<_}
+use lib.Dec.{eqb, ltb}
+use Rattle.lists.specs.Searches.{some, each}
 use Rattle.network.specs.declared.Plan.{Plan}
 use Rattle.network.specs.declared.Faults.{Faults}
-use Rattle.network.specs.Network.{n, m, link, has}
-
--- what follows where a plan is clear of 1 and 2, and is all that the searches ask of it
-pub record Small (p : Plan) : Type 0 where
-  pub hosts : n p ≤ 8
-  pub links : m p ≤ 12
-  pub ends : (i : ℕ) → i < m p → (link p i .a < 8) × (link p i .b < 8)
+use Rattle.network.specs.Network.{n, m, link, has, survives}
 
 -- host a is faulty, or in the set
 unfoldable pub covered : Faults → ℕ → ℕ → Bool
 covered f set a = has (f .hosts) a || has set a
+
+-- ---- sets of pairs of hosts, each a number with bit 8a + b for the pair of a and b
+
+abbrev pub pair : ℕ → ℕ → ℕ
+pair a b = 8 * a + b
+
+-- of the hosts below 8, the set has those pairs that pass the test
+abbrev pub Pairs : ℕ → (ℕ → ℕ → Bool) → Type 0
+Pairs set t = (a b : ℕ) → a < 8 → b < 8 → has set (pair a b) ≡ t a b
+
+-- link i is the pair of a and b, in this order
+unfoldable pub isPair : Plan → ℕ → ℕ → ℕ → Bool
+isPair p a b i = eqb a (link p i .a) && eqb b (link p i .b)
+
+-- link i joins a and b
+unfoldable pub joins : Plan → ℕ → ℕ → ℕ → Bool
+joins p a b i = isPair p a b i || isPair p b a i
+
+-- a link joins a and b
+unfoldable pub linked : Plan → ℕ → ℕ → Bool
+linked p a b = some (m p) (joins p a b)
+
+-- a surviving link joins a and b
+unfoldable pub next : Plan → Faults → ℕ → ℕ → Bool
+next p f a b = some (m p) (λ i. survives p f i && joins p a b i)
+
+-- a and b are survivors where the hosts hs are out
+unfoldable pub well : Plan → ℕ → ℕ → Bool
+well p hs a = ltb a (n p) && not (has hs a)
+
+unfoldable pub wellBoth : Plan → ℕ → ℕ → ℕ → Bool
+wellBoth p hs a b = well p hs a && well p hs b
+
+-- what is left of a plan that is clear of 1 and 2, and is all that the searches ask of it
+pub record Small (p : Plan) : Type 0 where
+  pub some-hosts : 1 ≤ n p
+  pub hosts : n p ≤ 8
+  pub links : m p ≤ 12
+  pub ends : (i : ℕ) → i < m p → (link p i .a < link p i .b) × (link p i .b < n p)
+  pub once : (i j : ℕ) → i < m p → j < m p → isPair p (link p i .a) (link p i .b) j ≡ true → i ≡ j

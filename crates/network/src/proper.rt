@@ -1,12 +1,9 @@
 // Refusals 1 and 2: the plan's numbers, and its links.
-use crate::Link;
 use crate::Plan;
 ghost use mathlib.Core.Path.{_≡_};
 ghost use mathlib.Core.Bool.{_&&_, not};
-ghost use Prim.Native.Nat.{_<_, _≤_};
-ghost use lib.Dec.{eqb};
-ghost use Rattle.lists.specs.Searches.{some};
-ghost use Rattle.network.specs.Network.{inRange, same, badLink, badLinks};
+ghost use Prim.Native.Nat.{_≤_};
+ghost use Rattle.network.specs.Network.{inRange, badLinks};
 
 // Whether a plan is clear of 1 and 2.
 pub fn is_proper(p: Plan) -> bool
@@ -34,49 +31,27 @@ pub(crate) fn in_range(p: Plan) -> bool
         & (p.skew <= 64)
 }
 
+// The pairs seen are bits 8a + b of one number, so that a repeat is one look.
 pub(crate) fn has_bad_link(p: Plan) -> bool
+    requires { ⌜ p .hosts ≤ 8 ⌝ }
     requires { ⌜ p .«link_count» ≤ 12 ⌝ }
     ensures { λ r. ⌜ r ≡ badLinks p ⌝ }
 {
     let m = p.link_count as usize;
+    let links = p.links;
+    let mut seen: u64 = 0;
     let mut i: usize = 0;
     while i < m {
-        if is_bad(p, i) {
+        let l = links[i];
+        if (l.a >= l.b) | (l.b >= p.hosts) {
             return true;
         }
+        let at = 8 * (l.a as u32) + (l.b as u32);
+        if (seen >> at) % 2 == 1 {
+            return true;
+        }
+        seen = (1u64 << at) | seen;
         i += 1;
     }
     false
-}
-
-fn is_bad(p: Plan, i: usize) -> bool
-    requires { ⌜ i < 12 ⌝ }
-    ensures { λ r. ⌜ r ≡ badLink p i ⌝ }
-{
-    let l = p.links[i];
-    (l.a >= p.hosts) | (l.b >= p.hosts) | (l.a >= l.b) | repeats(p, i)
-}
-
-// Whether link i is the same pair as an earlier one.
-fn repeats(p: Plan, i: usize) -> bool
-    requires { ⌜ i < 12 ⌝ }
-    ensures { λ r. ⌜ r ≡ some i (same p i) ⌝ }
-{
-    let links = p.links;
-    let l = links[i];
-    let mut j: usize = 0;
-    while j < i {
-        let q = links[j];
-        if is_same(l, q) {
-            return true;
-        }
-        j += 1;
-    }
-    false
-}
-
-fn is_same(l: Link, q: Link) -> bool
-    ensures { λ r. ⌜ r ≡ (eqb (l .a) (q .a) && eqb (l .b) (q .b)) ⌝ }
-{
-    (l.a == q.a) & (l.b == q.b)
 }

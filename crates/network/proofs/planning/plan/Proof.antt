@@ -23,7 +23,7 @@ returns : tie.Need-returns
 returns c = says-out _ (sym (c .before .in-range .ensures) ∙ not-true _ (c .if1 .taken))
 
 has-bad-link-requires : tie.Need-has-bad-link-requires
-has-bad-link-requires c κs = ranges _ (in-range c) .links-high
+has-bad-link-requires c κs = let r = ranges _ (in-range c) in (r .hosts-high, r .links-high)
 
 returns-2 : tie.Need-returns-2
 returns-2 c = says-bad _ (in-range (c .before .before)) (sym (c .before .has-bad-link .ensures) ∙ c .if2 .taken)

@@ -11,7 +11,7 @@ in-range-requires : tie.Need-in-range-requires
 in-range-requires c κs = search needs
 
 has-bad-link-requires : tie.Need-has-bad-link-requires
-has-bad-link-requires c κs = ranges (c .before .before .args .p) (sym (c .before .in-range .ensures) ∙ c .if1 .taken) .links-high
+has-bad-link-requires c κs = let r = ranges (c .before .before .args .p) (sym (c .before .in-range .ensures) ∙ c .if1 .taken) in (r .hosts-high, r .links-high)
 
 returns : tie.Need-returns
 returns c = let e : inRange (c .before .before .before .args .p) ≡ true = sym (c .before .before .in-range .ensures) ∙ c .before .if1 .taken in simp (c .has-bad-link .ensures, e)
