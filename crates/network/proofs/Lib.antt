@@ -2,7 +2,9 @@
 pub mod Bits
 pub mod Sizes
 pub mod Ranges
+mod PairLaws
 mod Repeats
+mod Rows
 pub mod Distances
 mod Masks
 pub mod Connected

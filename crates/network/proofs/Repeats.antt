@@ -4,7 +4,7 @@ use mathlib.Core.Bool.{Bool, true, false, _&&_, _||_, and-true}
 use mathlib.Core.Logic.{⊎-elim}
 use Prim.Native.Nat.{ℕ, suc, _+_, _*_, _%_, _^_, _≤_, _<_}
 use native.Mathlib.Omega.{arith}
-use borrow.Author.Tests.{eqb-true, eqb-false, eq-eqb, ne-eqb, leb-false, lt-leb}
+use borrow.Author.Tests.{leb-false, lt-leb}
 use lib.Dec.{eqb, leb}
 use lib.Bits.{bitOr}
 use Rattle.lists.specs.Searches.{some}
@@ -15,16 +15,8 @@ use Rattle.lists.proofs.TestLaws.{each-none}
 use Rattle.network.specs.Network.{n, link, has, same, badLink}
 use Rattle.network.specs.Inside.{pair, Pairs, isPair}
 use Rattle.network.specs.declared.Plan.{Plan}
-use Rattle.network.proofs.Bits.{has-or, has-top}
-
--- two places are one where both hosts are
-pub pair-same : (a b x y : ℕ) → b < 8 → y < 8 → eqb (pair a b) (pair x y) ≡ (eqb a x && eqb b y)
-pair-same a b x y h l = go (eqb a x) refl (eqb b y) refl
-  where
-    go : (t : Bool) → eqb a x ≡ t → (u : Bool) → eqb b y ≡ u → eqb (pair a b) (pair x y) ≡ (t && u)
-    go true e true q = let s = eqb-true a x e in let r = eqb-true b y q in eq-eqb (pair a b) (pair x y) (omega arith)
-    go true e false q = let no = eqb-false b y q in ne-eqb (pair a b) (pair x y) (λ z. no (omega arith))
-    go false e u q = let no = eqb-false a x e in ne-eqb (pair a b) (pair x y) (λ z. no (omega arith))
+use Rattle.network.proofs.Bits.{has-or}
+use Rattle.network.proofs.PairLaws.{one-pair}
 
 pub ordered : (a b k : ℕ) → (leb b a || leb k b) ≡ false → (a < b) × (b < k)
 ordered a b k e = (leb-false b a (or-left (leb b a) _ e), leb-false k b (or-right (leb b a) _ e))
@@ -58,5 +50,5 @@ module _ (p : Plan) (i : ℕ) where
   seen-more seen ha hb is x y hx hy =
       has-or _ seen (pair x y)
       ∙ ap₂ (λ (s t : Bool). s || t)
-      (has-top 64 (pair (link p i .a) (link p i .b)) (pair x y) (omega arith) ∙ pair-same x y (link p i .a) (link p i .b) hy hb) (is x y hx hy)
+      (one-pair (link p i .a) (link p i .b) ha hb x y hx hy) (is x y hx hy)
       ∙ sym (some-more (isPair p x y) i)

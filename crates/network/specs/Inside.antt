@@ -1,9 +1,10 @@
 -- Notions that only private contracts cite. Assumes nothing.
 use mathlib.Core.Path.{_≡_}
-use mathlib.Core.Bool.{Bool, true, not, _&&_, _||_}
+use mathlib.Core.Bool.{Bool, true, false, not, _&&_, _||_}
 use Prim.Native.Nat.{ℕ, suc, _+_, _*_, _≤_, _<_}
 use lib.Dec.{eqb, ltb}
 use Rattle.lists.specs.Searches.{some, each}
+use Rattle.network.specs.declared.Link.{Link}
 use Rattle.network.specs.declared.Plan.{Plan}
 use Rattle.network.specs.declared.Faults.{Faults}
 use Rattle.network.specs.Network.{n, m, link, has, survives}
@@ -21,21 +22,40 @@ pair a b = 8 * a + b
 abbrev pub Pairs : ℕ → (ℕ → ℕ → Bool) → Type 0
 Pairs set t = (a b : ℕ) → a < 8 → b < 8 → has set (pair a b) ≡ t a b
 
+abbrev pub paired : ℕ → ℕ → ℕ → Bool
+paired set a b = has set (pair a b)
+
+-- two tests of pairs agree on the hosts below 8
+unfoldable pub agree : Bool → Bool → Bool
+agree true t = t
+agree false t = not t
+
+unfoldable pub alike : (ℕ → ℕ → Bool) → (ℕ → ℕ → Bool) → Bool
+alike s t = each 8 (λ a. each 8 (λ b. agree (s a b) (t a b)))
+
 -- link i is the pair of a and b, in this order
 unfoldable pub isPair : Plan → ℕ → ℕ → ℕ → Bool
 isPair p a b i = eqb a (link p i .a) && eqb b (link p i .b)
 
--- link i joins a and b
-unfoldable pub joins : Plan → ℕ → ℕ → ℕ → Bool
-joins p a b i = isPair p a b i || isPair p b a i
+-- the link joins a and b
+unfoldable pub joins : Link → ℕ → ℕ → Bool
+joins l a b = eqb a (l .a) && eqb b (l .b) || eqb b (l .a) && eqb a (l .b)
 
 -- a link joins a and b
 unfoldable pub linked : Plan → ℕ → ℕ → Bool
-linked p a b = some (m p) (joins p a b)
+linked p a b = some (m p) (λ i. joins (link p i) a b)
 
 -- a surviving link joins a and b
 unfoldable pub next : Plan → Faults → ℕ → ℕ → Bool
-next p f a b = some (m p) (λ i. survives p f i && joins p a b i)
+next p f a b = some (m p) (λ i. survives p f i && joins (link p i) a b)
+
+-- a is b, or one pair of `joined` from a host c that is paired with b
+unfoldable pub spreads : ℕ → (ℕ → ℕ → Bool) → ℕ → ℕ → Bool
+spreads joined t a b = eqb a b || some 8 (λ c. has joined (pair a c) && t c b)
+
+-- each test spreads from the one before
+abbrev pub Spreads : ℕ → (ℕ → ℕ → ℕ → Bool) → Type 0
+Spreads joined t = (i a b : ℕ) → a < 8 → b < 8 → t (suc i) a b ≡ spreads joined (t i) a b
 
 -- a and b are survivors where the hosts hs are out
 unfoldable pub well : Plan → ℕ → ℕ → Bool
