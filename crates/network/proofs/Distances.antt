@@ -11,7 +11,7 @@ use Rattle.lists.specs.Searches.{each}
 use Rattle.lists.proofs.Bools.{false-unless, and-left, and-right, or-left, or-right, or-true-left, or-true-right, or-cases, then-le, else-le}
 use Rattle.lists.proofs.SearchLaws.{some-at, some-true, each-true, each-false, least-bound, least-le, least-hits, le-least, largest-le, le-largest}
 use Rattle.network.specs.Network.{n, m, π, L, link, has, survives, via, within, distance, farthest, diameter, worstLinks}
-use Rattle.network.specs.Inside.{covered}
+use Rattle.network.specs.Inside.{atLinks, atHosts}
 use Rattle.network.specs.declared.Plan.{Plan}
 use Rattle.network.specs.declared.Faults.{Faults}
 
@@ -83,40 +83,15 @@ module _ (p : Plan) (f : Faults) where
   unfolding diameter
   diameter-bound = largest-le _ (n p) (n p) (λ b h. else-le (has (f .hosts) b) (λ e. farthest-bound b))
 
-  -- r is the set of hosts within k links of b
-  module _ (b k r : ℕ) (is : (a : ℕ) → has r a ≡ within p f k a b) (low : k < n p) where
-    pub farthest-le : each (n p) (covered f r) ≡ true → farthest p f b ≤ k
-    unfolding farthest covered
-    farthest-le e =
-        largest-le _ (n p) k (λ a h.
-        else-le (has (f .hosts) a) (λ out.
-        distance-le a b k low (sym (is a) ∙ ap (λ (t : Bool). t || has r a) (sym out) ∙ each-true (covered f r) (n p) e a h)))
-
-    pub farthest-more : each (n p) (covered f r) ≡ false → k < farthest p f b
-    unfolding farthest covered
-    farthest-more e =
-        let s = each-false (covered f r) (n p) e in
-        let a = s .0 in
-        let out : has (f .hosts) a ≡ false = or-left (has (f .hosts) a) (has r a) (s .2) in
-        let far = distance-more a b k low (sym (is a) ∙ or-right (has (f .hosts) a) (has r a) (s .2)) in
-        le-trans (subst (λ (t : Bool). k < cond t 0 (distance p f a b)) (sym out) far) (le-largest _ (n p) a (s .1))
-
 -- ---- over the fault sets
 
 module _ (p : Plan) where
-  -- what the search over sets of links looks at, and that over sets of hosts
-  abbrev pub atLinks : ℕ → ℕ → ℕ
-  atLinks hs ls = cond (leb (ones ls) (L p)) (diameter p (record { hosts = hs; links = ls })) 0
-
-  abbrev pub atHosts : ℕ → ℕ
-  atHosts hs = cond (leb (ones hs) (π p)) (worstLinks p hs) 0
-
-  pub atLinks-bound : (hs ls : ℕ) → atLinks hs ls ≤ n p
+  pub atLinks-bound : (hs ls : ℕ) → atLinks p hs ls ≤ n p
   atLinks-bound hs ls = then-le (leb (ones ls) (L p)) (λ e. diameter-bound p (record { hosts = hs; links = ls }))
 
   pub worstLinks-bound : (hs : ℕ) → worstLinks p hs ≤ n p
   unfolding worstLinks
-  worstLinks-bound hs = largest-le (atLinks hs) (2 ^ m p) (n p) (λ ls h. atLinks-bound hs ls)
+  worstLinks-bound hs = largest-le (atLinks p hs) (2 ^ m p) (n p) (λ ls h. atLinks-bound hs ls)
 
-  pub atHosts-bound : (hs : ℕ) → atHosts hs ≤ n p
+  pub atHosts-bound : (hs : ℕ) → atHosts p hs ≤ n p
   atHosts-bound hs = then-le (leb (ones hs) (π p)) (λ e. worstLinks-bound hs)

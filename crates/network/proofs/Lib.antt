@@ -5,8 +5,8 @@ pub mod Ranges
 mod PairLaws
 mod Repeats
 mod Rows
+mod Leasts
 pub mod Distances
-mod Masks
 pub mod Connected
 pub mod Answers
 pub mod Survivors

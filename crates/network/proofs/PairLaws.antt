@@ -11,7 +11,7 @@ use Rattle.lists.specs.Searches.{each}
 use Rattle.lists.proofs.SearchLaws.{each-true}
 use Rattle.lists.proofs.Bools.{and-left, and-right}
 use Rattle.network.specs.Network.{has}
-use Rattle.network.specs.Inside.{pair, Pairs, agree, alike}
+use Rattle.network.specs.Inside.{pair, Pairs, paired, agree, alike}
 use Rattle.network.proofs.Bits.{has-or, has-top, same-bits}
 
 agree-same : (s t : Bool) → agree s t ≡ true → s ≡ t
@@ -38,6 +38,14 @@ module _ (s t : ℕ → ℕ → Bool) where
   pub at-alike : ((a b : ℕ) → a < 8 → b < 8 → s a b ≡ t a b) → alike s t ≡ true
   unfolding alike
   at-alike e = all-each 8 _ (λ a ha. all-each 8 _ (λ b hb. ap (λ (u : Bool). agree (s a b) u) (sym (e a b ha hb)) ∙ same-agree (s a b)))
+
+-- numbers that have the same pairs are the same
+pub pairs-same : (x y : ℕ) → x < 2 ^ 64 → y < 2 ^ 64 → alike (paired x) (paired y) ≡ true → x ≡ y
+pairs-same x y hx hy e =
+    same-bits 64 x y hx hy
+    (λ i h.
+    let at : pair (i / 8) (i % 8) ≡ i = omega arith in
+    ap (has x) (sym at) ∙ alike-at (paired x) (paired y) e (i / 8) (i % 8) (omega arith) (omega arith) ∙ ap (has y) at)
 
 -- ---- one pair, and a link's two
 

@@ -11,10 +11,11 @@ use Rattle.lists.specs.Tests.{firstOf}
 use Rattle.lists.proofs.Bools.{false-unless, then-at, else-at}
 use Rattle.lists.proofs.SearchLaws.{largest-at}
 use Rattle.network.specs.Network.{n, m, π, L, has, inRange, badLinks, within, distance, farthest, diameter, worstLinks, worst, planTests, planRefusal, FaultSet, Survivor}
+use Rattle.network.specs.Inside.{atLinks, atHosts}
 use Rattle.network.specs.declared.Plan.{Plan}
 use Rattle.network.specs.declared.Faults.{Faults}
 use Rattle.network.proofs.Ranges.{ranges}
-use Rattle.network.proofs.Distances.{atSurvivor, atLinks, atHosts, distance-le}
+use Rattle.network.proofs.Distances.{atSurvivor, distance-le}
 use Rattle.network.proofs.Connected.{within-hosts}
 use Rattle.network.proofs.Survivors.{reached}
 

@@ -3,12 +3,12 @@
 use mathlib.Core.Path.{_≡_, refl, sym, ap, ap₂, _∙_, subst}
 use mathlib.Core.Bool.{Bool, true, false, _&&_}
 use Prim.Native.Nat.{ℕ, zero, suc, _+_, _-_, _*_, _/_, _%_, _^_, _≤_, _<_}
-use native.Mathlib.Nat.{add-comm, mul-add, mul-assoc, mul-zero, mul-one, div-one, mod-lt, zero-lt-suc, le-refl, le-trans, le-suc, le-of-suc-le-suc, not-suc-le-zero, div-add-mod'}
+use native.Mathlib.Nat.{add-comm, mul-le-mul, lt-of-le-of-lt, mul-add, mul-assoc, mul-zero, mul-one, div-one, mod-lt, zero-lt-suc, le-refl, le-trans, le-suc, le-of-suc-le-suc, not-suc-le-zero, div-add-mod'}
 use native.Mathlib.Omega.{arith}
 use borrow.Author.Tests.{eqb-true}
 use lib.Arith.{digits-div, digits-mod}
-use lib.Dec.{eqb}
-use lib.Bits.{bitAnd, and-shr, and-mod, and-mask}
+use lib.Dec.{eqb, lit<}
+use lib.Bits.{bitAnd, and-shr, and-mod, and-mask, and-le-r}
 use lib.Pow.{shr-shr, field, mod-mod-pow}
 use Rattle.lists.specs.Searches.{each}
 use Rattle.lists.proofs.SearchLaws.{each-true}
@@ -99,3 +99,9 @@ row-has near joined a b c ha hb =
 
     joint : eqb (J / 2 ^ (8 * a) % 2) 1 ≡ has joined (pair a c)
     joint = has-shr joined c (8 * a) ∙ ap (has joined) (add-comm c (8 * a))
+
+pub row-fits : (near J : ℕ) → (near % 256) * bitAnd J 72340172838076673 < 2 ^ 64
+row-fits near J =
+    let row : near % 256 ≤ 255 = omega arith in
+    let most : (near % 256) * bitAnd J 72340172838076673 ≤ 255 * 72340172838076673 = mul-le-mul row (and-le-r J 72340172838076673) in
+    lt-of-le-of-lt most (lit< tt)

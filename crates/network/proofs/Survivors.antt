@@ -10,9 +10,10 @@ use lib.Dec.{eqb}
 use Rattle.lists.proofs.Bools.{and-left, and-right, or-cases}
 use Rattle.lists.proofs.SearchLaws.{some-at, le-largest}
 use Rattle.network.specs.Network.{n, m, link, has, survives, via, within, distance, farthest, diameter, worstLinks, worst, planRefusal, FaultSet, Survivor}
+use Rattle.network.specs.Inside.{atLinks, atHosts}
 use Rattle.network.specs.declared.Plan.{Plan}
 use Rattle.network.specs.declared.Faults.{Faults}
-use Rattle.network.proofs.Distances.{atSurvivor, atLinks, atHosts, distance-within}
+use Rattle.network.proofs.Distances.{atSurvivor, distance-within}
 use Rattle.network.proofs.Answers.{fine}
 
 -- ---- any two survivors are within d links

@@ -1,17 +1,14 @@
 -- Notions that only private contracts cite. Assumes nothing.
 use mathlib.Core.Path.{_≡_}
-use mathlib.Core.Bool.{Bool, true, false, not, _&&_, _||_}
-use Prim.Native.Nat.{ℕ, suc, _+_, _*_, _≤_, _<_}
-use lib.Dec.{eqb, ltb}
+use mathlib.Core.Bool.{Bool, true, false, not, cond, _&&_, _||_}
+use Prim.Native.Nat.{ℕ, suc, _+_, _*_, _%_, _^_, _≤_, _<_}
+use lib.Dec.{eqb, leb, ltb}
+use lib.Count.{ones}
 use Rattle.lists.specs.Searches.{some, each}
 use Rattle.network.specs.declared.Link.{Link}
 use Rattle.network.specs.declared.Plan.{Plan}
 use Rattle.network.specs.declared.Faults.{Faults}
-use Rattle.network.specs.Network.{n, m, link, has, survives}
-
--- host a is faulty, or in the set
-unfoldable pub covered : Faults → ℕ → ℕ → Bool
-covered f set a = has (f .hosts) a || has set a
+use Rattle.network.specs.Network.{n, m, π, L, link, has, survives, diameter, worstLinks}
 
 -- ---- sets of pairs of hosts, each a number with bit 8a + b for the pair of a and b
 
@@ -63,6 +60,26 @@ well p hs a = ltb a (n p) && not (has hs a)
 
 unfoldable pub wellBoth : Plan → ℕ → ℕ → ℕ → Bool
 wellBoth p hs a b = well p hs a && well p hs b
+
+-- what all pairs that are looked for are: two survivors, or a host with itself
+unfoldable pub wanted : Plan → ℕ → ℕ → ℕ → Bool
+wanted p hs a b = wellBoth p hs a b || eqb a b
+
+-- ---- the searches over sets
+
+-- what the search over sets of links looks at, and that over sets of hosts
+abbrev pub atLinks : Plan → ℕ → ℕ → ℕ
+atLinks p hs ls = cond (leb (ones ls) (L p)) (diameter p (record { hosts = hs; links = ls })) 0
+
+abbrev pub atHosts : Plan → ℕ → ℕ
+atHosts p hs = cond (leb (ones hs) (π p)) (worstLinks p hs) 0
+
+-- a set of up to `most` of k places, none of them below i: it stands for all sets with the same places from i on, set + j for j below 2 ^ i
+pub record Upper (i k most set : ℕ) : Type 0 where
+  pub places : i ≤ k
+  pub fits : set + 2 ^ i ≤ 2 ^ k
+  pub none-below : set % 2 ^ i ≡ 0
+  pub few : ones set ≤ most
 
 -- what is left of a plan that is clear of 1 and 2, and is all that the searches ask of it
 pub record Small (p : Plan) : Type 0 where

@@ -1,5 +1,4 @@
 // Planning of a network: which plans are refused, and for the others the largest diameter that a fault set leaves, with the bounds made of it.
-mod diameter;
 mod pairs;
 pub mod planning;
 mod proper;

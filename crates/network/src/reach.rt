@@ -1,61 +1,42 @@
-// The hosts within k links of a host, over the links that survive.
+// The pairs of hosts within k links of each other, over the links that survive.
 use crate::Faults;
 use crate::Link;
 use crate::Plan;
+use crate::pairs::ITSELF;
 use crate::sets::is_in;
-use crate::sets::put;
-use crate::sets::put_if;
 ghost use mathlib.Core.Path.{_≡_};
-ghost use mathlib.Core.Bool.{_||_};
-ghost use Prim.Native.Nat.{ℕ, _<_};
-ghost use lib.Dec.{eqb};
+ghost use mathlib.Core.Bool.{Bool};
+ghost use Prim.Native.Nat.{ℕ, _+_, _≤_};
 ghost use lib.ListN.{getD};
-ghost use Rattle.lists.specs.Searches.{some};
-ghost use Rattle.network.specs.Network.{m, noLink, has, survives, via, within};
-ghost use Rattle.network.specs.Inside.{Small};
+ghost use Rattle.lists.specs.Searches.{least};
+ghost use Rattle.network.specs.Network.{noLink, survives};
+ghost use Rattle.network.specs.Inside.{Pairs, paired, alike, spreads, Spreads};
 
-// The set of hosts within k links of b.
-pub(crate) fn reach(p: Plan, f: Faults, k: u8, b: u8) -> u32
-    requires { ⌜ Small p ⌝ }
-    requires { ⌜ b < 32 ⌝ }
-    ensures { λ r. ⌜ ((a : ℕ) → has r a ≡ within p f k a b) ⌝ }
+// How many of k links are left over when the pairs within reach are all that are wanted; `near` are within reach already.
+pub(crate) fn reach(joined: u64, all: u64, near: u64, k: u8) -> u8
+    ensures { λ r. ⌜ r ≤ k ⌝ }
+    ensures { λ r. ⌜ ((t : ℕ → ℕ → ℕ → Bool) → Pairs near (t 0) → Spreads joined t → r + least k (λ i. alike (paired all) (t i)) ≡ k) ⌝ }
 {
-    if k == 0 {
-        put(0, b)
-    } else {
-        spread(p, f, reach(p, f, k - 1, b), b)
+    if (near == all) | (k == 0) {
+        return k;
     }
+    reach(joined, all, spread(joined, near), k - 1)
 }
 
-// Host b, with the hosts that a surviving link joins to a host of `near`.
-fn spread(p: Plan, f: Faults, near: u32, b: u8) -> u32
-    requires { ⌜ Small p ⌝ }
-    requires { ⌜ b < 32 ⌝ }
-    ensures { λ r. ⌜ ((a : ℕ) → has r a ≡ (eqb a b || some (m p) (via p f (has near) a))) ⌝ }
+// Each host with itself, and with the hosts that are paired in `near` with one that it is joined to: the row of c in `near` is put at the
+// row of each host joined to c, by one product.
+fn spread(joined: u64, near: u64) -> u64
+    ensures { λ r. ⌜ Pairs r (spreads joined (paired near)) ⌝ }
 {
-    let mut out = put(0, b);
-    let mut i: u8 = 0;
-    while i < p.link_count {
-        out = step(p, f, near, out, i);
-        i += 1;
+    let mut out = ITSELF;
+    let mut c: u32 = 0;
+    while c < 8 {
+        let row = (near >> (8 * c)) % 256;
+        let column = (joined >> c) & 0x0101_0101_0101_0101;
+        out = (row * column) | out;
+        c += 1;
     }
     out
-}
-
-// The set `out`, with the hosts that link i joins to a host of `near`.
-fn step(p: Plan, f: Faults, near: u32, out: u32, i: u8) -> u32
-    requires { ⌜ Small p ⌝ }
-    requires { ⌜ i < p .«link_count» ⌝ }
-    ensures { λ r. ⌜ ((a : ℕ) → has r a ≡ (via p f (has near) a i || has out a)) ⌝ }
-{
-    if link_survives(p, f, i) {
-        let at = i as usize;
-        let l = p.links[at];
-        let one = put_if(is_in(near, l.b), out, l.a);
-        put_if(is_in(near, l.a), one, l.b)
-    } else {
-        out
-    }
 }
 
 // Whether neither link i nor one of its ends is faulty; a number that has no place is the zero link's.

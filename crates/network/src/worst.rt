@@ -1,73 +1,70 @@
-// d: the largest diameter over all fault sets. Each search stops at a set that leaves survivors not connected, as no diameter is larger.
-use crate::Faults;
+// d: the largest diameter over all fault sets. The sets are tried in halves, from the highest place down: with host or link i - 1 out, and
+// without. No diameter is above n, so a search that has met n stops.
 use crate::Plan;
-use crate::diameter::diameter_of;
-use crate::diameter::larger;
+use crate::pairs::ITSELF;
+use crate::pairs::ends;
+use crate::pairs::joined;
+use crate::pairs::square;
+use crate::pairs::with_host;
+use crate::reach::reach;
 ghost use mathlib.Core.Path.{_≡_};
-ghost use mathlib.Core.Bool.{cond};
-ghost use lib.Dec.{leb};
-ghost use lib.Count.{ones};
-ghost use Rattle.network.specs.Network.{π, L, diameter, worstLinks, worst};
-ghost use Rattle.network.specs.Inside.{Small};
+ghost use Prim.Native.Nat.{ℕ, _+_, _^_, max};
+ghost use Rattle.lists.specs.Searches.{largest};
+ghost use Rattle.network.specs.Network.{n, m, π, L, worst};
+ghost use Rattle.network.specs.Inside.{Pairs, Small, Upper, linked, next, wellBoth, wanted, atLinks, atHosts};
 
 pub(crate) fn worst_of(p: Plan) -> u8
     requires { ⌜ Small p ⌝ }
     ensures { λ r. ⌜ r ≡ worst p ⌝ }
 {
-    let top = 1u32 << (p.hosts as u32);
-    let mut d: u8 = 0;
-    let mut hs: u32 = 0;
-    while hs < top {
-        d = larger(d, with_hosts_out(p, hs));
-        if d >= p.hosts {
-            return d;
-        }
-        hs += 1;
-    }
-    d
+    hosts_out(p, joined(p), p.hosts, 0, square(p.hosts))
 }
 
-fn with_hosts_out(p: Plan, hs: u32) -> u8
+// The largest over the sets of hosts that are hs from host i on.
+fn hosts_out(p: Plan, links: u64, i: u8, hs: u32, survivors: u64) -> u8
     requires { ⌜ Small p ⌝ }
-    ensures { λ r. ⌜ r ≡ cond (leb (ones hs) (π p)) (worstLinks p hs) 0 ⌝ }
+    requires { ⌜ Upper i (n p) (π p) hs ⌝ }
+    requires { ⌜ Pairs links (linked p) ⌝ }
+    requires { ⌜ Pairs survivors (wellBoth p hs) ⌝ }
+    ensures { λ r. ⌜ r ≡ largest (2 ^ i) (λ j. atHosts p (hs + j)) ⌝ }
 {
-    if u32::count_ones(hs) <= p.faulty_hosts as u32 {
-        worst_links(p, hs)
-    } else {
-        0
+    if (i == 0) | (u32::count_ones(hs) >= p.faulty_hosts as u32) {
+        return links_out(p, survivors | ITSELF, p.link_count, 0, links & survivors);
     }
+    let h = i - 1;
+    let d = hosts_out(p, links, h, hs + (1u32 << (h as u32)), survivors & !with_host(h));
+    if d >= p.hosts {
+        return d;
+    }
+    larger(d, hosts_out(p, links, h, hs, survivors))
 }
 
-fn worst_links(p: Plan, hs: u32) -> u8
+// The largest over the sets of links that are ls from link i on, whatever the faulty hosts hs are that `all` and `joined` are made for. A
+// link that no survivors are joined by is not tried: with it out the survivors and their links are the same, and the set is larger.
+fn links_out(p: Plan, all: u64, i: u8, ls: u32, joined: u64) -> u8
     requires { ⌜ Small p ⌝ }
-    ensures { λ r. ⌜ r ≡ worstLinks p hs ⌝ }
+    requires { ⌜ Upper i (m p) (L p) ls ⌝ }
+    ensures { λ r. ⌜ ((hs : ℕ) → Pairs all (wanted p hs) → Pairs joined (next p (record { hosts = hs; links = ls })) → r ≡ largest (2 ^ i) (λ j. atLinks p hs (ls + j))) ⌝ }
 {
-    let top = 1u32 << (p.link_count as u32);
-    let mut d: u8 = 0;
-    let mut ls: u32 = 0;
-    while ls < top {
-        d = larger(d, with_links_out(p, hs, ls));
-        if d >= p.hosts {
-            return d;
-        }
-        ls += 1;
+    if (i == 0) | (u32::count_ones(ls) >= p.faulty_links as u32) {
+        return p.hosts - reach(joined, all, ITSELF, p.hosts);
     }
-    d
+    let l = i - 1;
+    let at = l as usize;
+    let link = p.links[at];
+    let pair = ends(link);
+    if joined & pair == 0 {
+        return links_out(p, all, l, ls, joined);
+    }
+    let d = links_out(p, all, l, ls + (1u32 << (l as u32)), joined & !pair);
+    if d >= p.hosts {
+        return d;
+    }
+    larger(d, links_out(p, all, l, ls, joined))
 }
 
-fn with_links_out(p: Plan, hs: u32, ls: u32) -> u8
-    requires { ⌜ Small p ⌝ }
-    ensures { λ r. ⌜ r ≡ cond (leb (ones ls) (L p)) (diameter p (record { hosts = hs; links = ls })) 0 ⌝ }
+fn larger(x: u8, y: u8) -> u8
+    ensures { λ r. ⌜ r ≡ max y x ⌝ }
 {
-    if u32::count_ones(ls) <= p.faulty_links as u32 {
-        diameter_of(
-            p,
-            Faults {
-                hosts: hs,
-                links: ls,
-            },
-        )
-    } else {
-        0
-    }
+    if x < y { y } else { x }
 }

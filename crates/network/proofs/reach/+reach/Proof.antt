@@ -1,25 +1,28 @@
--- By recursion with k falling: within 0 links is the host itself, within k one spread from within k - 1. Assumes nothing.
-use mathlib.Core.Path.{_≡_, sym, ap, _∙_, fun-ext}
-use mathlib.Core.Bool.{Bool, _||_, or-false}
-use Prim.Native.Nat.{ℕ, suc, _-_, _<_}
+-- By recursion with k falling: what is within reach is all that is wanted, or one link more is tried. Assumes nothing.
+use native.Mathlib.Nat.{le-refl}
 use native.Mathlib.Omega.{arith}
 use borrow.Author.Needs.{needs}
+use borrow.Author.Tests.{eqb-false, eq-eqb}
+use mathlib.Core.Path.{_≡_}
+use mathlib.Core.Bool.{Bool, false, _||_}
 use lib.Dec.{eqb}
-use Rattle.lists.specs.Searches.{some}
-use Rattle.network.specs.Network.{via, within}
-use Rattle.network.proofs.Bits.{has-none}
+use Rattle.lists.proofs.Bools.{or-left, or-right}
+use Rattle.network.proofs.Leasts.{reached-now, reached-later, not-yet, spread-on}
+use Prim.Native.Nat.{ℕ, suc, _<_}
 use borrow.Fn.Kinds.{In}
 use borrow.Fn.PlainCycle.{Measures, is, falls, and}
 use Rattle.network.proofs.reach.reach.Reads as reach
 use Rattle.network.proofs.reach.reach.Kinds as reach-kinds
 use Rattle.network.proofs.reach.+reach.Lts-reach as reach-lts
 use Rattle.network.proofs.reach.spread.Reads as spread-reads
-use Rattle.network.proofs.sets.put.Reads as put-reads
 use Rattle.network.proofs.reach.+reach.{statement}
 use Rattle.network.proofs.reach.+reach.Tie.{close}
 
 abbrev μ-reach : Measures 0 reach-kinds.ps ℕ
-μ-reach κs a = a .1 .1 .0
+μ-reach κs a = a .1 .1 .1 .0
+
+some-left : (t : Bool) (k : ℕ) → (t || eqb k 0) ≡ false → 0 < k
+some-left t k e = let none = eqb-false k 0 (or-right t _ e) in omega arith
 
 abbrev reach-at : ℕ → In 0 reach-kinds.ps
 reach-at t = and 0 reach-kinds.ps (is 0 reach-kinds.ps μ-reach t) reach.Pre
@@ -27,92 +30,73 @@ reach-at t = and 0 reach-kinds.ps (is 0 reach-kinds.ps μ-reach t) reach.Pre
 abbrev reach-below : ℕ → In 0 reach-kinds.ps
 reach-below t = and 0 reach-kinds.ps (falls 0 reach-kinds.ps _<_ μ-reach t) reach.Pre
 
-reach-put-requires : (t : ℕ) → reach-lts.Need-put-requires (
-  put-reads.Asked,
-  put-reads.Learnt,
-  reach-below t,
-  reach.Post,
+reach-returns : (t : ℕ) → reach-lts.Need-returns (
   spread-reads.Asked,
   spread-reads.Learnt,
-) (reach-at t) reach.Post
-reach-put-requires t c κs = search needs
-
-reach-sub-reach : (t : ℕ) → reach-lts.Need-sub-reach (
-  put-reads.Asked,
-  put-reads.Learnt,
   reach-below t,
   reach.Post,
-  spread-reads.Asked,
-  spread-reads.Learnt,
 ) (reach-at t) reach.Post
-reach-sub-reach t c = search needs
-
-reach-reach-requires : (t : ℕ) → reach-lts.Need-reach-requires (
-  put-reads.Asked,
-  put-reads.Learnt,
-  reach-below t,
-  reach.Post,
-  spread-reads.Asked,
-  spread-reads.Learnt,
-) (reach-at t) reach.Post
-reach-reach-requires t c κs = (omega arith, c .before .pre .1)
+reach-returns t c = (le-refl _, λ t is st. reached-now (c .before .args .joined) (c .before .args .all) (c .before .args .near) (c .before .args .k) t is (c .if1 .taken))
 
 reach-spread-requires : (t : ℕ) → reach-lts.Need-spread-requires (
-  put-reads.Asked,
-  put-reads.Learnt,
-  reach-below t,
-  reach.Post,
   spread-reads.Asked,
   spread-reads.Learnt,
+  reach-below t,
+  reach.Post,
 ) (reach-at t) reach.Post
 reach-spread-requires t c κs = search needs
 
-reach-returns : (t : ℕ) → reach-lts.Need-returns (
-  put-reads.Asked,
-  put-reads.Learnt,
-  reach-below t,
-  reach.Post,
+left-at : {t : ℕ} (c : reach-lts.After-spread (
   spread-reads.Asked,
   spread-reads.Learnt,
+  reach-below t,
+  reach.Post,
+) (reach-at t) reach.Post) → 0 < c .before .before .args .k
+left-at c = let g = c .before .before .args in some-left (eqb (g .near) (g .all)) (g .k) (c .before .if1 .left)
+
+reach-sub-reach : (t : ℕ) → reach-lts.Need-sub-reach (
+  spread-reads.Asked,
+  spread-reads.Learnt,
+  reach-below t,
+  reach.Post,
 ) (reach-at t) reach.Post
-unfolding within
-reach-returns t c a =
-    let g = c .before .before .args in
-    c .put .ensures a
-    ∙ ap (λ (u : Bool). eqb a (g .b) || u) (has-none a)
-    ∙ or-false (eqb a (g .b))
-    ∙ ap (λ (k : ℕ). within (g .p) (g .f) k a (g .b)) (sym (c .before .if1 .taken))
+reach-sub-reach t c = left-at c
+
+reach-reach-requires : (t : ℕ) → reach-lts.Need-reach-requires (
+  spread-reads.Asked,
+  spread-reads.Learnt,
+  reach-below t,
+  reach.Post,
+) (reach-at t) reach.Post
+reach-reach-requires t c κs = let h = left-at c in (omega arith, c .before .before .pre .1)
 
 reach-returns-2 : (t : ℕ) → reach-lts.Need-returns-2 (
-  put-reads.Asked,
-  put-reads.Learnt,
-  reach-below t,
-  reach.Post,
   spread-reads.Asked,
   spread-reads.Learnt,
+  reach-below t,
+  reach.Post,
 ) (reach-at t) reach.Post
-unfolding within
-reach-returns-2 t c a =
+reach-returns-2 t c =
     let g = c .before .before .before .args in
-    let falls-by-one : suc (g .k - 1) ≡ g .k = omega arith in
-    c .spread .ensures a
-    ∙ ap (λ (near : ℕ → Bool). eqb a (g .b) || some (g .p .«link_count») (via (g .p) (g .f) near a)) (fun-ext (c .before .reach .ensures))
-    ∙ ap (λ (k : ℕ). within (g .p) (g .f) k a (g .b)) falls-by-one
+    let h = left-at (c .before) in (
+      omega (arith, c .reach .ensures .0),
+      λ t is st.
+          reached-later (g .joined) (g .all) (g .near) (g .k) t is _ h
+          (not-yet (g .joined) (g .all) (g .near) (g .k) t is (search needs) (search needs) (eqb-false (g .near) (g .all) (or-left (eqb (g .near) (g .all)) _ (c .before .before .if1 .left))))
+          (c .reach .ensures .1 (λ i. t (suc i)) (spread-on (g .joined) (g .all) (g .near) (g .k) t is (c .before .spread .result) (c .before .spread .ensures) st) (λ i. st (suc i))),
+    )
 
 pub +reach-spec : {M : Type 1} → statement M
 +reach-spec = close μ-reach λ t. reach-lts.spec (
-  put-reads.Asked,
-  put-reads.Learnt,
-  reach-below t,
-  reach.Post,
   spread-reads.Asked,
   spread-reads.Learnt,
+  reach-below t,
+  reach.Post,
 )
     (reach-at t)
     reach.Post
-    (reach-put-requires t)
+    (reach-returns t)
+    (reach-spread-requires t)
     (reach-sub-reach t)
     (reach-reach-requires t)
-    (reach-spread-requires t)
-    (reach-returns t)
     (reach-returns-2 t)

@@ -1,53 +1,71 @@
--- The invariant: in the set are b and the hosts that a link passed joins to `near`. Assumes nothing.
-use mathlib.Core.Path.{_≡_, sym, ap, _∙_}
-use mathlib.Core.Bool.{Bool, _||_}
-use Prim.Native.Nat.{ℕ, _-_, _≤_}
+-- The invariant: in the set are each host with itself, and what the rows passed have put in. Assumes nothing.
+use mathlib.Core.Path.{_≡_, sym, ap, ap₂, _∙_}
+use mathlib.Core.Bool.{Bool, _&&_, _||_, or-false}
+use Prim.Native.Nat.{ℕ, _-_, _*_, _/_, _^_, _≤_}
+use borrow.Author.Needs.{needs}
 use lib.Dec.{eqb}
 use Rattle.lists.specs.Searches.{some}
 use Rattle.lists.proofs.Bools.{or-swap}
 use Rattle.lists.proofs.SearchLaws.{some-start, some-more, at-end}
-use Rattle.network.specs.Network.{has, via}
-use Rattle.network.proofs.Bits.{has-none}
-use borrow.Author.Needs.{needs}
+use Rattle.network.specs.Network.{has}
+use Rattle.network.specs.Inside.{pair, Pairs, spreads}
+use Rattle.network.proofs.Bits.{has-or}
+use Rattle.network.proofs.PairLaws.{itself}
+use Rattle.network.proofs.Rows.{row-has, row-fits}
 use Rattle.network.proofs.reach.spread.Statement.{statement}
 use Rattle.network.proofs.reach.spread.Tie as tie
 
 abbrev Inv-loop : tie.InvT-loop
-Inv-loop p f near b out₀ i₀ out i = (i ≤ p .«link_count») × ((a : ℕ) → has out a ≡ (eqb a b || some i (via p f (has near) a)))
+Inv-loop joined near out₀ c₀ out c = (c ≤ 8) × Pairs out (λ a b. eqb a b || some c (λ d. has joined (pair a d) && has near (pair d b)))
 
 abbrev μ-loop : tie.MeasureT-loop
-μ-loop p f near b out₀ i₀ out i = p .«link_count» - i
-
-put-requires : tie.Need-put-requires Inv-loop μ-loop
-put-requires c κs = search needs
+μ-loop joined near out₀ c₀ out c = 8 - c
 
 loop-holds : tie.Need-loop-holds Inv-loop μ-loop
-loop-holds c = (search needs, λ a. c .put .ensures a ∙ ap (λ (t : Bool). eqb a (c .before .args .b) || t) (has-none a ∙ sym (some-start _)))
+loop-holds c = (search needs, λ a b ha hb. itself a b ha hb ∙ sym (ap (λ (t : Bool). eqb a b || t) (some-start _) ∙ or-false (eqb a b)))
 
-step-requires : tie.Need-step-requires Inv-loop μ-loop
-step-requires c κs = search needs
+mul-row : tie.Need-mul-row Inv-loop μ-loop
+mul-row c = search needs
 
-add-i : tie.Need-add-i Inv-loop μ-loop
-add-i c = search needs
+cast-row : tie.Need-cast-row Inv-loop μ-loop
+cast-row c = search needs
+
+shr-row : tie.Need-shr-row Inv-loop μ-loop
+shr-row c = search needs
+
+cast-column : tie.Need-cast-column Inv-loop μ-loop
+cast-column c = search needs
+
+shr-column : tie.Need-shr-column Inv-loop μ-loop
+shr-column c = search needs
+
+mul-out : tie.Need-mul-out Inv-loop μ-loop
+mul-out c = record { fits = row-fits (c .before .before .args .near / 2 ^ (8 * c .before .loop .c)) (c .before .before .args .joined / 2 ^ c .before .loop .c) }
+
+add-c : tie.Need-add-c Inv-loop μ-loop
+add-c c = search needs
 
 loop-less : tie.Need-loop-less Inv-loop μ-loop
 loop-less c = search needs
 
 loop-again : tie.Need-loop-again Inv-loop μ-loop
 loop-again c =
-    let s = c .before .before .before .loop in
-    let g = c .before .before .before .before .before .args in (
+    let g = c .before .before .args in
+    let s = c .before .loop in (
       search needs,
-      λ a.
-          let joins : ℕ → Bool = via (g .p) (g .f) (has (g .near)) a in
-          simp (c .step .ensures, s .inv .1, some-more joins (s .i)) (or-swap (joins (s .i)) (eqb a (g .b)) (some (s .i) joins)),
+      λ a b ha hb.
+          let by : ℕ → Bool = λ d. has (g .joined) (pair a d) && has (g .near) (pair d b) in
+          has-or _ (s .out) (pair a b)
+          ∙ ap₂ (λ (x y : Bool). x || y) (row-has (g .near) (g .joined) a b (s .c) ha hb) (s .inv .1 a b ha hb)
+          ∙ or-swap (by (s .c)) (eqb a b) (some (s .c) by)
+          ∙ ap (λ (t : Bool). eqb a b || t) (sym (some-more by (s .c))),
     )
 
 returns : tie.Need-returns Inv-loop μ-loop
+unfolding spreads
 returns c =
-    λ a.
-    let g = c .before .before .before .before .args in
-    at-end (λ (k : ℕ). eqb a (g .b) || some k (via (g .p) (g .f) (has (g .near)) a)) (c .before .before .loop .inv .0) (c .if1 .left) (c .before .before .loop .inv .1 a)
+    λ a b ha hb.
+    at-end (λ (k : ℕ). eqb a b || some k (λ d. has (c .before .before .args .joined) (pair a d) && has (c .before .before .args .near) (pair d b))) (c .before .loop .inv .0) (c .loop-test .left) (c .before .loop .inv .1 a b ha hb)
 
 pub spread-spec : {M : Type 1} → statement M
 spread-spec =
@@ -55,10 +73,14 @@ spread-spec =
     (tie.spec
     Inv-loop
     μ-loop
-    put-requires
     loop-holds
-    step-requires
-    add-i
+    mul-row
+    cast-row
+    shr-row
+    cast-column
+    shr-column
+    mul-out
+    add-c
     loop-less
     loop-again
     returns)
