@@ -3,14 +3,13 @@ use mathlib.Core.Path.{_≡_, refl, sym, ap, _∙_}
 use mathlib.Core.Bool.{Bool, true, false, cond, _&&_, _||_, true≢false}
 use mathlib.Core.Logic.{⊎-elim}
 use Prim.Native.Nat.{ℕ, zero, suc, _+_, _-_, _^_, _≤_, _<_}
-use native.Mathlib.Nat.{not-suc-le-zero, add-zero}
-use native.Mathlib.Numerals.{sub-one}
+use native.Mathlib.Nat.{add-zero, le-refl, le-antisymm}
 use native.Mathlib.Omega.{arith}
-use borrow.Author.Tests.{eqb-true}
-use lib.Dec.{eqb}
+use borrow.Author.Tests.{eqb-true, leb-true, leb-false, le-leb, lt-leb}
+use lib.Dec.{eqb, leb}
 use Rattle.lists.specs.Searches.{least}
 use Rattle.lists.proofs.Bools.{false-unless, or-cases}
-use Rattle.lists.proofs.SearchLaws.{some-same}
+use Rattle.lists.proofs.SearchLaws.{some-same, least-here, least-none}
 use Rattle.network.specs.Network.{has}
 use Rattle.network.specs.Inside.{pair, Pairs, paired, alike, spreads, Spreads}
 use Rattle.network.proofs.PairLaws.{alike-at, at-alike, pairs-same}
@@ -27,6 +26,17 @@ least-now (suc k) f e = ap (λ (t : Bool). cond t 0 (suc (least k (λ i. f (suc 
 least-later : (k : ℕ) (f : ℕ → Bool) → f 0 ≡ false → least (suc k) f ≡ suc (least k (λ i. f (suc i)))
 unfolding least
 least-later k f e = ap (λ (t : Bool). cond t 0 (suc (least k (λ i. f (suc i))))) e
+
+-- where the test passes from D on, D is the least
+pub least-from : (k D : ℕ) (f : ℕ → Bool) → D ≤ k → ((i : ℕ) → i < k → f i ≡ leb D i) → least k f ≡ D
+least-from k D f h e = go (leb k D) refl
+  where
+    before : (i : ℕ) → i < k → i < D → f i ≡ false
+    before i l q = e i l ∙ lt-leb D i q
+
+    go : (t : Bool) → leb k D ≡ t → least k f ≡ D
+    go true q = let l = leb-true k D q in sym (least-none k f (λ i b. before i b (omega arith))) ∙ le-antisymm l h
+    go false q = let l = leb-false k D q in sym (least-here k f D l (λ i b. before i (omega arith) b) (e D l ∙ le-leb D D (le-refl D)))
 
 module _ (joined all near k : ℕ) (t : ℕ → ℕ → ℕ → Bool) (is : Pairs near (t 0)) where
   done : ℕ → Bool

@@ -10,6 +10,9 @@ pub mod Distances
 pub mod Connected
 pub mod Answers
 pub mod Survivors
+mod Halves
+mod Nexts
+mod Diameters
 pub mod Partings
 pub mod Limits
 pub mod One

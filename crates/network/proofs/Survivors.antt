@@ -19,24 +19,29 @@ use Rattle.network.proofs.Answers.{fine}
 -- ---- any two survivors are within d links
 
 -- a number that counts where a test has its value is at most what the choice takes
-then-most : {t : Bool} (x : ℕ) → t ≡ true → x ≤ cond t x 0
+pub then-most : {t : Bool} (x : ℕ) → t ≡ true → x ≤ cond t x 0
 then-most x e = subst (λ (t : Bool). x ≤ cond t x 0) (sym e) (le-refl x)
 
 else-most : {t : Bool} (x : ℕ) → t ≡ false → x ≤ cond t 0 x
 else-most x e = subst (λ (t : Bool). x ≤ cond t 0 x) (sym e) (le-refl x)
 
+pub distance-diameter : (p : Plan) (f : Faults) (a b : ℕ) → Survivor p f a → Survivor p f b → distance p f a b ≤ diameter p f
+unfolding farthest diameter
+distance-diameter p f a b sa sb =
+    le-trans (else-most (distance p f a b) (sa .well))
+    (le-trans (le-largest (λ x. cond (has (f .hosts) x) 0 (distance p f x b)) (n p) a (sa .host))
+    (le-trans (else-most (farthest p f b) (sb .well))
+    (le-largest (atSurvivor p f) (n p) b (sb .host))))
+
 module _ (p : Plan) (f : Faults) (set : FaultSet p f) (a b : ℕ) (sa : Survivor p f a) (sb : Survivor p f b) where
   pub distance-worst : distance p f a b ≤ worst p
-  unfolding farthest diameter worstLinks worst
+  unfolding worstLinks worst
   distance-worst =
-      le-trans (else-most (distance p f a b) (sa .well))
-      (le-trans (le-largest (λ x. cond (has (f .hosts) x) 0 (distance p f x b)) (n p) a (sa .host))
-      (le-trans (else-most (farthest p f b) (sb .well))
-      (le-trans (le-largest (atSurvivor p f) (n p) b (sb .host))
+      le-trans (distance-diameter p f a b sa sb)
       (le-trans (then-most (diameter p f) (le-leb _ _ (set .few-links)))
       (le-trans (le-largest (atLinks p (f .hosts)) (2 ^ m p) (f .links) (set .links))
       (le-trans (then-most (worstLinks p (f .hosts)) (le-leb _ _ (set .few-hosts)))
-      (le-largest (atHosts p) (2 ^ n p) (f .hosts) (set .hosts))))))))
+      (le-largest (atHosts p) (2 ^ n p) (f .hosts) (set .hosts)))))
 
   pub reached : planRefusal p ≡ 0 → within p f (worst p) a b ≡ true
   reached e = distance-within p f a b (worst p) distance-worst (lt-of-le-of-lt distance-worst (fine p e .near))

@@ -43,8 +43,8 @@ unfoldable pub linked : Plan → ℕ → ℕ → Bool
 linked p a b = some (m p) (λ i. joins (link p i) a b)
 
 -- a surviving link joins a and b
-unfoldable pub next : Plan → Faults → ℕ → ℕ → Bool
-next p f a b = some (m p) (λ i. survives p f i && joins (link p i) a b)
+unfoldable pub nextTo : Plan → Faults → ℕ → ℕ → Bool
+nextTo p f a b = some (m p) (λ i. survives p f i && joins (link p i) a b)
 
 -- a is b, or one pair of `joined` from a host c that is paired with b
 unfoldable pub spreads : ℕ → (ℕ → ℕ → Bool) → ℕ → ℕ → Bool

@@ -11,7 +11,7 @@ ghost use mathlib.Core.Path.{_≡_};
 ghost use Prim.Native.Nat.{ℕ, _+_, _^_, max};
 ghost use Rattle.lists.specs.Searches.{largest};
 ghost use Rattle.network.specs.Network.{n, m, π, L, worst};
-ghost use Rattle.network.specs.Inside.{Pairs, Small, Upper, linked, next, wellBoth, wanted, atLinks, atHosts};
+ghost use Rattle.network.specs.Inside.{Pairs, Small, Upper, linked, nextTo, wellBoth, wanted, atLinks, atHosts};
 
 pub(crate) fn worst_of(p: Plan) -> u8
     requires { ⌜ Small p ⌝ }
@@ -44,7 +44,7 @@ fn hosts_out(p: Plan, links: u64, i: u8, hs: u32, survivors: u64) -> u8
 fn links_out(p: Plan, all: u64, i: u8, ls: u32, joined: u64) -> u8
     requires { ⌜ Small p ⌝ }
     requires { ⌜ Upper i (m p) (L p) ls ⌝ }
-    ensures { λ r. ⌜ ((hs : ℕ) → Pairs all (wanted p hs) → Pairs joined (next p (record { hosts = hs; links = ls })) → r ≡ largest (2 ^ i) (λ j. atLinks p hs (ls + j))) ⌝ }
+    ensures { λ r. ⌜ ((hs : ℕ) → Pairs all (wanted p hs) → Pairs joined (nextTo p (record { hosts = hs; links = ls })) → r ≡ largest (2 ^ i) (λ j. atLinks p hs (ls + j))) ⌝ }
 {
     if (i == 0) | (u32::count_ones(ls) >= p.faulty_links as u32) {
         return p.hosts - reach(joined, all, ITSELF, p.hosts);
