@@ -9,7 +9,7 @@ use Rattle.network.proofs.Distances.{atLinks-bound}
 use Rattle.network.proofs.Nexts.{within-spreads}
 use Rattle.network.proofs.Diameters.{left-over}
 use Rattle.network.proofs.Halves.{full}
-use Rattle.network.proofs.Turns.{some-left, place, top, fits, not-in, not-in-here, next-without, next-with, stops, skips, meets}
+use Rattle.network.proofs.Turns.{Turn, turn, stops, skips, meets}
 use Rattle.network.proofs.Outs.{less, link-out, dead-link, not-tried}
 use Prim.Native.Nat.{ℕ, _+_, _-_, _<_}
 use borrow.Fn.Kinds.{In}
@@ -33,275 +33,8 @@ abbrev links-out-below : ℕ → In 0 links-out-kinds.ps
 links-out-below t =
     and 0 links-out-kinds.ps (falls 0 links-out-kinds.ps _<_ μ-links-out t) links-out.Pre
 
-links-out-cast-if1 : (t : ℕ) → links-out-lts.Need-cast-if1 (
-  reach-reads.Asked,
-  reach-reads.Learnt,
-  ends-reads.Asked,
-  ends-reads.Learnt,
-  links-out-below t,
-  links-out.Post,
-  larger-reads.Asked,
-  larger-reads.Learnt,
-) (links-out-at t) links-out.Post
-links-out-cast-if1 t c = search needs
-
-links-out-reach-requires : (t : ℕ) → links-out-lts.Need-reach-requires (
-  reach-reads.Asked,
-  reach-reads.Learnt,
-  ends-reads.Asked,
-  ends-reads.Learnt,
-  links-out-below t,
-  links-out.Post,
-  larger-reads.Asked,
-  larger-reads.Learnt,
-) (links-out-at t) links-out.Post
-links-out-reach-requires t c κs = search needs
-
-links-out-sub-result : (t : ℕ) → links-out-lts.Need-sub-result (
-  reach-reads.Asked,
-  reach-reads.Learnt,
-  ends-reads.Asked,
-  ends-reads.Learnt,
-  links-out-below t,
-  links-out.Post,
-  larger-reads.Asked,
-  larger-reads.Learnt,
-) (links-out-at t) links-out.Post
-links-out-sub-result t c = c .reach .ensures .0
-
-links-out-returns : (t : ℕ) → links-out-lts.Need-returns (
-  reach-reads.Asked,
-  reach-reads.Learnt,
-  ends-reads.Asked,
-  ends-reads.Learnt,
-  links-out-below t,
-  links-out.Post,
-  larger-reads.Asked,
-  larger-reads.Learnt,
-) (links-out-at t) links-out.Post
-links-out-returns t c =
-    λ hs all joined.
-        let g = c .before .before .args in
-        let small = c .before .before .pre .1 .0 in
-        left-over (g .t1) small hs (g .ls) (g .all) _ all
-        (c .reach .ensures .1 (within (g .t1) (record { hosts = hs; links = g .ls })) itself (within-spreads (g .t1) small (record { hosts = hs; links = g .ls }) (g .joined) joined))
-        ∙ sym (full (g .i) (m (g .t1)) (L (g .t1)) (g .ls) (c .before .before .pre .1 .1) (c .before .if1 .taken) (λ x. diameter (g .t1) (record { hosts = hs; links = x })))
-
-links-out-sub-l : (t : ℕ) → links-out-lts.Need-sub-l (
-  reach-reads.Asked,
-  reach-reads.Learnt,
-  ends-reads.Asked,
-  ends-reads.Learnt,
-  links-out-below t,
-  links-out.Post,
-  larger-reads.Asked,
-  larger-reads.Learnt,
-) (links-out-at t) links-out.Post
-links-out-sub-l t c =
-    some-left (c .before .args .i) (m (c .before .args .t1)) (L (c .before .args .t1)) (c .before .args .ls) (c .before .pre .1 .1) (c .if1 .left) (c .before .pre .1 .0 .links)
-
-links-out-cast-at : (t : ℕ) → links-out-lts.Need-cast-at (
-  reach-reads.Asked,
-  reach-reads.Learnt,
-  ends-reads.Asked,
-  ends-reads.Learnt,
-  links-out-below t,
-  links-out.Post,
-  larger-reads.Asked,
-  larger-reads.Learnt,
-) (links-out-at t) links-out.Post
-links-out-cast-at t c = search needs
-
-links-out-mul-link : (t : ℕ) → links-out-lts.Need-mul-link (
-  reach-reads.Asked,
-  reach-reads.Learnt,
-  ends-reads.Asked,
-  ends-reads.Learnt,
-  links-out-below t,
-  links-out.Post,
-  larger-reads.Asked,
-  larger-reads.Learnt,
-) (links-out-at t) links-out.Post
-links-out-mul-link t c = search needs
-
-links-out-element-copy-out-link : (t : ℕ) → links-out-lts.Need-element-copy-out-link (
-  reach-reads.Asked,
-  reach-reads.Learnt,
-  ends-reads.Asked,
-  ends-reads.Learnt,
-  links-out-below t,
-  links-out.Post,
-  larger-reads.Asked,
-  larger-reads.Learnt,
-) (links-out-at t) links-out.Post
-links-out-element-copy-out-link t c =
-    let h = place (c .before .args .i) (m (c .before .args .t1)) (L (c .before .args .t1)) (c .before .args .ls) (c .before .pre .1 .1) (c .if1 .left) (c .before .pre .1 .0 .links) in let k = c .before .pre .1 .0 .links in omega arith
-
-links-out-ends-requires : (t : ℕ) → links-out-lts.Need-ends-requires (
-  reach-reads.Asked,
-  reach-reads.Learnt,
-  ends-reads.Asked,
-  ends-reads.Learnt,
-  links-out-below t,
-  links-out.Post,
-  larger-reads.Asked,
-  larger-reads.Learnt,
-) (links-out-at t) links-out.Post
-links-out-ends-requires t c κs =
-    let k = c .before .before .pre .1 .0 .ends (c .before .before .args .i - 1) (place (c .before .before .args .i) (m (c .before .before .args .t1)) (L (c .before .before .args .t1)) (c .before .before .args .ls) (c .before .before .pre .1 .1) (c .before .if1 .left) (c .before .before .pre .1 .0 .links)) in let h = c .before .before .pre .1 .0 .hosts in (omega arith, omega arith)
-
-links-out-links-out-requires : (t : ℕ) → links-out-lts.Need-links-out-requires (
-  reach-reads.Asked,
-  reach-reads.Learnt,
-  ends-reads.Asked,
-  ends-reads.Learnt,
-  links-out-below t,
-  links-out.Post,
-  larger-reads.Asked,
-  larger-reads.Learnt,
-) (links-out-at t) links-out.Post
-links-out-links-out-requires t c κs =
-    (let h = some-left (c .before .before .before .before .args .i) (m (c .before .before .before .before .args .t1)) (L (c .before .before .before .before .args .t1)) (c .before .before .before .before .args .ls) (c .before .before .before .before .pre .1 .1) (c .before .before .before .if1 .left) (c .before .before .before .before .pre .1 .0 .links) in omega arith, (c .before .before .before .before .pre .1 .0, next-without (c .before .before .before .before .args .i) (m (c .before .before .before .before .args .t1)) (L (c .before .before .before .before .args .t1)) (c .before .before .before .before .args .ls) (c .before .before .before .before .pre .1 .1) (c .before .before .before .if1 .left) (c .before .before .before .before .pre .1 .0 .links)))
-
-links-out-returns-2 : (t : ℕ) → links-out-lts.Need-returns-2 (
-  reach-reads.Asked,
-  reach-reads.Learnt,
-  ends-reads.Asked,
-  ends-reads.Learnt,
-  links-out-below t,
-  links-out.Post,
-  larger-reads.Asked,
-  larger-reads.Learnt,
-) (links-out-at t) links-out.Post
-links-out-returns-2 t c =
-    λ hs all joined.
-        let g = c .before .before .before .before .before .args in
-        let small = c .before .before .before .before .before .pre .1 .0 in
-        let there = place (c .before .before .before .before .before .args .i) (m (c .before .before .before .before .before .args .t1)) (L (c .before .before .before .before .before .args .t1)) (c .before .before .before .before .before .args .ls) (c .before .before .before .before .before .pre .1 .1) (c .before .before .before .before .if1 .left) (c .before .before .before .before .before .pre .1 .0 .links) in
-        let k = c .before .before .before .before .before .pre .1 .0 .ends (g .i - 1) there in
-        let h = small .hosts in
-        let off = dead-link (g .t1) small hs (g .i - 1) there (g .joined) (c .before .before .ends .result) (g .ls) (omega arith) (omega arith) (not-in-here (c .before .before .before .before .before .args .i) (m (c .before .before .before .before .before .args .t1)) (L (c .before .before .before .before .before .args .t1)) (c .before .before .before .before .before .args .ls) (c .before .before .before .before .before .pre .1 .1) (c .before .before .before .before .if1 .left) (c .before .before .before .before .before .pre .1 .0 .links)) joined (c .before .before .ends .ensures) (c .before .if2 .taken) in
-        skips (c .before .before .before .before .before .args .i) (m (c .before .before .before .before .before .args .t1)) (L (c .before .before .before .before .before .args .t1)) (c .before .before .before .before .before .args .ls) (c .before .before .before .before .before .pre .1 .1) (c .before .before .before .before .if1 .left) (c .before .before .before .before .before .pre .1 .0 .links) (atLinks (g .t1) hs)
-        (λ j l. not-tried (g .t1) small hs (g .i - 1) there (g .ls + j) off (not-in (c .before .before .before .before .before .args .i) (m (c .before .before .before .before .before .args .t1)) (L (c .before .before .before .before .before .args .t1)) (c .before .before .before .before .before .args .ls) (c .before .before .before .before .before .pre .1 .1) (c .before .before .before .before .if1 .left) (c .before .before .before .before .before .pre .1 .0 .links) j l)) (c .links-out .ensures hs all joined)
-
-links-out-cast-links-out : (t : ℕ) → links-out-lts.Need-cast-links-out (
-  reach-reads.Asked,
-  reach-reads.Learnt,
-  ends-reads.Asked,
-  ends-reads.Learnt,
-  links-out-below t,
-  links-out.Post,
-  larger-reads.Asked,
-  larger-reads.Learnt,
-) (links-out-at t) links-out.Post
-links-out-cast-links-out t c = search needs
-
-links-out-shl-links-out : (t : ℕ) → links-out-lts.Need-shl-links-out (
-  reach-reads.Asked,
-  reach-reads.Learnt,
-  ends-reads.Asked,
-  ends-reads.Learnt,
-  links-out-below t,
-  links-out.Post,
-  larger-reads.Asked,
-  larger-reads.Learnt,
-) (links-out-at t) links-out.Post
-links-out-shl-links-out t c = search needs
-
-links-out-add-links-out : (t : ℕ) → links-out-lts.Need-add-links-out (
-  reach-reads.Asked,
-  reach-reads.Learnt,
-  ends-reads.Asked,
-  ends-reads.Learnt,
-  links-out-below t,
-  links-out.Post,
-  larger-reads.Asked,
-  larger-reads.Learnt,
-) (links-out-at t) links-out.Post
-links-out-add-links-out t c =
-    record { fits = fits (c .before .before .before .before .args .i) (m (c .before .before .before .before .args .t1)) (L (c .before .before .before .before .args .t1)) (c .before .before .before .before .args .ls) (c .before .before .before .before .pre .1 .1) (c .before .before .before .if1 .left) (c .before .before .before .before .pre .1 .0 .links) }
-
-links-out-links-out-requires-2 : (t : ℕ) → links-out-lts.Need-links-out-requires-2 (
-  reach-reads.Asked,
-  reach-reads.Learnt,
-  ends-reads.Asked,
-  ends-reads.Learnt,
-  links-out-below t,
-  links-out.Post,
-  larger-reads.Asked,
-  larger-reads.Learnt,
-) (links-out-at t) links-out.Post
-links-out-links-out-requires-2 t c κs =
-    (let h = some-left (c .before .before .before .before .args .i) (m (c .before .before .before .before .args .t1)) (L (c .before .before .before .before .args .t1)) (c .before .before .before .before .args .ls) (c .before .before .before .before .pre .1 .1) (c .before .before .before .if1 .left) (c .before .before .before .before .pre .1 .0 .links) in omega arith, (c .before .before .before .before .pre .1 .0, next-with (c .before .before .before .before .args .i) (m (c .before .before .before .before .args .t1)) (L (c .before .before .before .before .args .t1)) (c .before .before .before .before .args .ls) (c .before .before .before .before .pre .1 .1) (c .before .before .before .if1 .left) (c .before .before .before .before .pre .1 .0 .links)))
-
-links-out-returns-3 : (t : ℕ) → links-out-lts.Need-returns-3 (
-  reach-reads.Asked,
-  reach-reads.Learnt,
-  ends-reads.Asked,
-  ends-reads.Learnt,
-  links-out-below t,
-  links-out.Post,
-  larger-reads.Asked,
-  larger-reads.Learnt,
-) (links-out-at t) links-out.Post
-links-out-returns-3 t c =
-    λ hs all is.
-        let g = c .before .before .before .before .before .before .args in
-        let small = c .before .before .before .before .before .before .pre .1 .0 in
-        let there = place (c .before .before .before .before .before .before .args .i) (m (c .before .before .before .before .before .before .args .t1)) (L (c .before .before .before .before .before .before .args .t1)) (c .before .before .before .before .before .before .args .ls) (c .before .before .before .before .before .before .pre .1 .1) (c .before .before .before .before .before .if1 .left) (c .before .before .before .before .before .before .pre .1 .0 .links) in
-        stops (c .before .before .before .before .before .before .args .i) (m (c .before .before .before .before .before .before .args .t1)) (L (c .before .before .before .before .before .before .args .t1)) (c .before .before .before .before .before .before .args .ls) (c .before .before .before .before .before .before .pre .1 .1) (c .before .before .before .before .before .if1 .left) (c .before .before .before .before .before .before .pre .1 .0 .links) (atLinks (g .t1) hs) (g .t1 .hosts) _ (atLinks-bound (g .t1) hs) (c .if3 .taken)
-        (c .before .links-out2 .ensures hs all (λ a b ha hb.
-        less (g .joined) (c .before .before .before .ends .result) _ _ (search needs) is (c .before .before .before .ends .ensures) a b ha hb
-        ∙ link-out (g .t1) small hs (g .i - 1) there (g .ls) _ a b (top (c .before .before .before .before .before .before .args .i) (m (c .before .before .before .before .before .before .args .t1)) (L (c .before .before .before .before .before .before .args .t1)) (c .before .before .before .before .before .before .args .ls) (c .before .before .before .before .before .before .pre .1 .1) (c .before .before .before .before .before .if1 .left) (c .before .before .before .before .before .before .pre .1 .0 .links)) (not-in-here (c .before .before .before .before .before .before .args .i) (m (c .before .before .before .before .before .before .args .t1)) (L (c .before .before .before .before .before .before .args .t1)) (c .before .before .before .before .before .before .args .ls) (c .before .before .before .before .before .before .pre .1 .1) (c .before .before .before .before .before .if1 .left) (c .before .before .before .before .before .before .pre .1 .0 .links))))
-
-links-out-links-out-requires-3 : (t : ℕ) → links-out-lts.Need-links-out-requires-3 (
-  reach-reads.Asked,
-  reach-reads.Learnt,
-  ends-reads.Asked,
-  ends-reads.Learnt,
-  links-out-below t,
-  links-out.Post,
-  larger-reads.Asked,
-  larger-reads.Learnt,
-) (links-out-at t) links-out.Post
-links-out-links-out-requires-3 t c κs =
-    (let h = some-left (c .before .before .before .before .before .before .args .i) (m (c .before .before .before .before .before .before .args .t1)) (L (c .before .before .before .before .before .before .args .t1)) (c .before .before .before .before .before .before .args .ls) (c .before .before .before .before .before .before .pre .1 .1) (c .before .before .before .before .before .if1 .left) (c .before .before .before .before .before .before .pre .1 .0 .links) in omega arith, (c .before .before .before .before .before .before .pre .1 .0, next-without (c .before .before .before .before .before .before .args .i) (m (c .before .before .before .before .before .before .args .t1)) (L (c .before .before .before .before .before .before .args .t1)) (c .before .before .before .before .before .before .args .ls) (c .before .before .before .before .before .before .pre .1 .1) (c .before .before .before .before .before .if1 .left) (c .before .before .before .before .before .before .pre .1 .0 .links)))
-
-links-out-larger-requires : (t : ℕ) → links-out-lts.Need-larger-requires (
-  reach-reads.Asked,
-  reach-reads.Learnt,
-  ends-reads.Asked,
-  ends-reads.Learnt,
-  links-out-below t,
-  links-out.Post,
-  larger-reads.Asked,
-  larger-reads.Learnt,
-) (links-out-at t) links-out.Post
-links-out-larger-requires t c κs = search needs
-
-links-out-returns-4 : (t : ℕ) → links-out-lts.Need-returns-4 (
-  reach-reads.Asked,
-  reach-reads.Learnt,
-  ends-reads.Asked,
-  ends-reads.Learnt,
-  links-out-below t,
-  links-out.Post,
-  larger-reads.Asked,
-  larger-reads.Learnt,
-) (links-out-at t) links-out.Post
-links-out-returns-4 t c =
-    λ hs all is.
-        let g = c .before .before .before .before .before .before .before .before .args in
-        let small = c .before .before .before .before .before .before .before .before .pre .1 .0 in
-        let there = place (c .before .before .before .before .before .before .before .before .args .i) (m (c .before .before .before .before .before .before .before .before .args .t1)) (L (c .before .before .before .before .before .before .before .before .args .t1)) (c .before .before .before .before .before .before .before .before .args .ls) (c .before .before .before .before .before .before .before .before .pre .1 .1) (c .before .before .before .before .before .before .before .if1 .left) (c .before .before .before .before .before .before .before .before .pre .1 .0 .links) in
-        meets (c .before .before .before .before .before .before .before .before .args .i) (m (c .before .before .before .before .before .before .before .before .args .t1)) (L (c .before .before .before .before .before .before .before .before .args .t1)) (c .before .before .before .before .before .before .before .before .args .ls) (c .before .before .before .before .before .before .before .before .pre .1 .1) (c .before .before .before .before .before .before .before .if1 .left) (c .before .before .before .before .before .before .before .before .pre .1 .0 .links) (atLinks (g .t1) hs) (c .larger .ensures)
-        (c .before .before .before .links-out2 .ensures hs all (λ a b ha hb.
-        less (g .joined) (c .before .before .before .before .before .ends .result) _ _ (search needs) is (c .before .before .before .before .before .ends .ensures) a b ha hb
-        ∙ link-out (g .t1) small hs (g .i - 1) there (g .ls) _ a b (top (c .before .before .before .before .before .before .before .before .args .i) (m (c .before .before .before .before .before .before .before .before .args .t1)) (L (c .before .before .before .before .before .before .before .before .args .t1)) (c .before .before .before .before .before .before .before .before .args .ls) (c .before .before .before .before .before .before .before .before .pre .1 .1) (c .before .before .before .before .before .before .before .if1 .left) (c .before .before .before .before .before .before .before .before .pre .1 .0 .links)) (not-in-here (c .before .before .before .before .before .before .before .before .args .i) (m (c .before .before .before .before .before .before .before .before .args .t1)) (L (c .before .before .before .before .before .before .before .before .args .t1)) (c .before .before .before .before .before .before .before .before .args .ls) (c .before .before .before .before .before .before .before .before .pre .1 .1) (c .before .before .before .before .before .before .before .if1 .left) (c .before .before .before .before .before .before .before .before .pre .1 .0 .links))))
-        (c .before .links-out3 .ensures hs all is)
-
-pub +links-out-spec : {M : Type 1} → statement M
-+links-out-spec = close μ-links-out λ t. links-out-lts.spec (
+abbrev calls : ℕ → links-out-lts.Claims
+calls t = (
   reach-reads.Asked,
   reach-reads.Learnt,
   ends-reads.Asked,
@@ -311,6 +44,113 @@ pub +links-out-spec : {M : Type 1} → statement M
   larger-reads.Asked,
   larger-reads.Learnt,
 )
+
+abbrev Going : ℕ → Type 0
+Going t = links-out-lts.Else1 (calls t) (links-out-at t) links-out.Post
+
+-- link i - 1 is settled next
+turn-of : (t : ℕ) (c : Going t) → Turn (c .before .args .i) (m (c .before .args .t1)) (L (c .before .args .t1)) (c .before .args .ls)
+turn-of t c = let g = c .before .args in turn (g .i) (m (g .t1)) (L (g .t1)) (g .ls) (c .before .pre .1 .1) (c .if1 .left) (c .before .pre .1 .0 .links)
+
+links-out-cast-if1 : (t : ℕ) → links-out-lts.Need-cast-if1 (calls t) (links-out-at t) links-out.Post
+links-out-cast-if1 t c = search needs
+
+links-out-reach-requires : (t : ℕ) → links-out-lts.Need-reach-requires (calls t) (links-out-at t) links-out.Post
+links-out-reach-requires t c κs = search needs
+
+links-out-sub-result : (t : ℕ) → links-out-lts.Need-sub-result (calls t) (links-out-at t) links-out.Post
+links-out-sub-result t c = c .reach .ensures .0
+
+links-out-returns : (t : ℕ) → links-out-lts.Need-returns (calls t) (links-out-at t) links-out.Post
+unfolding within
+links-out-returns t c =
+    λ hs all joined.
+        let g = c .before .before .args in
+        let small = c .before .before .pre .1 .0 in
+        left-over (g .t1) small hs (g .ls) (g .all) _ all
+        (c .reach .ensures .1 (within (g .t1) (record { hosts = hs; links = g .ls })) itself (within-spreads (g .t1) small (record { hosts = hs; links = g .ls }) (g .joined) joined))
+        ∙ sym (full (g .i) (m (g .t1)) (L (g .t1)) (g .ls) (c .before .before .pre .1 .1) (c .before .if1 .taken) (λ x. diameter (g .t1) (record { hosts = hs; links = x })))
+
+links-out-sub-l : (t : ℕ) → links-out-lts.Need-sub-l (calls t) (links-out-at t) links-out.Post
+links-out-sub-l t c =
+    turn-of t c .some-left
+
+links-out-cast-at : (t : ℕ) → links-out-lts.Need-cast-at (calls t) (links-out-at t) links-out.Post
+links-out-cast-at t c = search needs
+
+links-out-mul-link : (t : ℕ) → links-out-lts.Need-mul-link (calls t) (links-out-at t) links-out.Post
+links-out-mul-link t c = search needs
+
+links-out-element-copy-out-link : (t : ℕ) → links-out-lts.Need-element-copy-out-link (calls t) (links-out-at t) links-out.Post
+links-out-element-copy-out-link t c =
+    let h = turn-of t c .place in let k = c .before .pre .1 .0 .links in omega arith
+
+links-out-ends-requires : (t : ℕ) → links-out-lts.Need-ends-requires (calls t) (links-out-at t) links-out.Post
+links-out-ends-requires t c κs =
+    let k = c .before .before .pre .1 .0 .ends (c .before .before .args .i - 1) (turn-of t (c .before) .place) in let h = c .before .before .pre .1 .0 .hosts in (omega arith, omega arith)
+
+links-out-links-out-requires : (t : ℕ) → links-out-lts.Need-links-out-requires (calls t) (links-out-at t) links-out.Post
+links-out-links-out-requires t c κs =
+    (let h = turn-of t (c .before .before .before) .some-left in omega arith, (c .before .before .before .before .pre .1 .0, turn-of t (c .before .before .before) .next-without))
+
+links-out-returns-2 : (t : ℕ) → links-out-lts.Need-returns-2 (calls t) (links-out-at t) links-out.Post
+links-out-returns-2 t c =
+    λ hs all joined.
+        let g = c .before .before .before .before .before .args in
+        let small = c .before .before .before .before .before .pre .1 .0 in
+        let there = turn-of t (c .before .before .before .before) .place in
+        let k = c .before .before .before .before .before .pre .1 .0 .ends (g .i - 1) there in
+        let h = small .hosts in
+        let off = dead-link (g .t1) small hs (g .i - 1) there (g .joined) (c .before .before .ends .result) (g .ls) (omega arith) (omega arith) (turn-of t (c .before .before .before .before) .not-in) joined (c .before .before .ends .ensures) (c .before .if2 .taken) in
+        skips (turn-of t (c .before .before .before .before)) (atLinks (g .t1) hs)
+        (λ x e. not-tried (g .t1) small hs (g .i - 1) there x off e) (c .links-out .ensures hs all joined)
+
+links-out-cast-links-out : (t : ℕ) → links-out-lts.Need-cast-links-out (calls t) (links-out-at t) links-out.Post
+links-out-cast-links-out t c = search needs
+
+links-out-shl-links-out : (t : ℕ) → links-out-lts.Need-shl-links-out (calls t) (links-out-at t) links-out.Post
+links-out-shl-links-out t c = search needs
+
+links-out-add-links-out : (t : ℕ) → links-out-lts.Need-add-links-out (calls t) (links-out-at t) links-out.Post
+links-out-add-links-out t c =
+    record { fits = turn-of t (c .before .before .before) .fits }
+
+links-out-links-out-requires-2 : (t : ℕ) → links-out-lts.Need-links-out-requires-2 (calls t) (links-out-at t) links-out.Post
+links-out-links-out-requires-2 t c κs =
+    (let h = turn-of t (c .before .before .before) .some-left in omega arith, (c .before .before .before .before .pre .1 .0, turn-of t (c .before .before .before) .next-with))
+
+links-out-returns-3 : (t : ℕ) → links-out-lts.Need-returns-3 (calls t) (links-out-at t) links-out.Post
+links-out-returns-3 t c =
+    λ hs all is.
+        let g = c .before .before .before .before .before .before .args in
+        let small = c .before .before .before .before .before .before .pre .1 .0 in
+        let there = turn-of t (c .before .before .before .before .before) .place in
+        stops (turn-of t (c .before .before .before .before .before)) (atLinks (g .t1) hs) (g .t1 .hosts) (atLinks-bound (g .t1) hs) (c .if3 .taken)
+        (c .before .links-out2 .ensures hs all (λ a b ha hb.
+        less (g .joined) (c .before .before .before .ends .result) _ _ (search needs) is (c .before .before .before .ends .ensures) a b ha hb
+        ∙ link-out (g .t1) small hs (g .i - 1) there (g .ls) _ a b (turn-of t (c .before .before .before .before .before) .top) (turn-of t (c .before .before .before .before .before) .not-in)))
+
+links-out-links-out-requires-3 : (t : ℕ) → links-out-lts.Need-links-out-requires-3 (calls t) (links-out-at t) links-out.Post
+links-out-links-out-requires-3 t c κs =
+    (let h = turn-of t (c .before .before .before .before .before) .some-left in omega arith, (c .before .before .before .before .before .before .pre .1 .0, turn-of t (c .before .before .before .before .before) .next-without))
+
+links-out-larger-requires : (t : ℕ) → links-out-lts.Need-larger-requires (calls t) (links-out-at t) links-out.Post
+links-out-larger-requires t c κs = search needs
+
+links-out-returns-4 : (t : ℕ) → links-out-lts.Need-returns-4 (calls t) (links-out-at t) links-out.Post
+links-out-returns-4 t c =
+    λ hs all is.
+        let g = c .before .before .before .before .before .before .before .before .args in
+        let small = c .before .before .before .before .before .before .before .before .pre .1 .0 in
+        let there = turn-of t (c .before .before .before .before .before .before .before) .place in
+        meets (turn-of t (c .before .before .before .before .before .before .before)) (atLinks (g .t1) hs) (c .larger .ensures)
+        (c .before .before .before .links-out2 .ensures hs all (λ a b ha hb.
+        less (g .joined) (c .before .before .before .before .before .ends .result) _ _ (search needs) is (c .before .before .before .before .before .ends .ensures) a b ha hb
+        ∙ link-out (g .t1) small hs (g .i - 1) there (g .ls) _ a b (turn-of t (c .before .before .before .before .before .before .before) .top) (turn-of t (c .before .before .before .before .before .before .before) .not-in)))
+        (c .before .links-out3 .ensures hs all is)
+
+pub +links-out-spec : {M : Type 1} → statement M
++links-out-spec = close μ-links-out λ t. links-out-lts.spec (calls t)
     (links-out-at t)
     links-out.Post
     (links-out-cast-if1 t)
