@@ -18,5 +18,6 @@ pub mod Boards
 pub mod Demand3
 pub mod Decided
 pub mod Example
+mod Compared
 pub mod Witnesses
 pub mod Written

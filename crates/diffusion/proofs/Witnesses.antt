@@ -5,19 +5,19 @@ use mathlib.Core.Bool.{Bool, true, false, not, _&&_, true≢false}
 use mathlib.Core.List.{List, [], _∷_, map}
 use Prim.Native.Nat.{ℕ, _+_, _<_}
 use native.Mathlib.Omega.{arith}
-use borrow.Author.Tests.{leb-true, ltb-true, eq-eqb, not-true}
+use borrow.Author.Tests.{leb-true, ltb-true, not-true}
 use lib.Count.{ones}
 use lib.Dec.{leb, ltb, eqb}
 use lib.ListN.{drop}
-use Rattle.lists.specs.Lists.{all, listed}
+use Rattle.lists.specs.Lists.{all, any, listed}
 use Rattle.lists.specs.Members.{In, All}
 use Rattle.lists.specs.Tests.{allOf, anyOf}
 use Rattle.lists.specs.Searches.{some, each, largest, least}
 use Rattle.lists.proofs.Listed.{all-member}
+use Rattle.lists.proofs.SearchLaws.{each-true}
 use Rattle.lists.proofs.MemberLaws.{in-all}
 use Rattle.lists.proofs.TestLaws.{all-each}
-use Rattle.orders.specs.Orders.{kindOf, imageOf, sameOrder}
-use Rattle.orders.proofs.Laws.{equal-same}
+use Rattle.orders.specs.Orders.{kindOf, imageOf}
 use Rattle.orders.specs.declared.Order.the-variants.{Publish, Resume, Withdraw}
 use Rattle.network.specs.Network.{n, inRange, same, badLink, badLinks, has, survives, via, within, distance, farthest, diameter, worstLinks, worst, bound, window, planTests, planRefusal, Survivor}
 use Rattle.host.specs.State.{soundTests}
@@ -29,27 +29,13 @@ use Rattle.host.specs.Start.{startTests}
 use Rattle.host.specs.Receive.{receiveTests}
 use Rattle.host.specs.Tick.{tickTests}
 use Rattle.diffusion.specs.Hosts.{Carried}
-use Rattle.diffusion.specs.Run.{reading, run, Some, before, delivers, log, Starts-at, Refuses-at, Premises, Claims}
+use Rattle.diffusion.specs.Run.{reading, callsAt, run, Some, before, delivers, log, Starts-at, Refuses-at, Premises, Claims}
 use Rattle.diffusion.specs.Boards.{boardBy, offers, Full, Frees, None}
 use Rattle.diffusion.specs.Example.{begun, twoHosts}
-use Rattle.diffusion.specs.Variants.{startsOther, idle}
-use Rattle.diffusion.specs.Witnesses.{Witness, sequence, Parts, soon, twice, witnesses, otherRun, others, idleRun, idlers, tightRun, roomless, fullBoard, fullOrders}
+use Rattle.diffusion.specs.Variants.{startsOther, sendsOther, idle}
+use Rattle.diffusion.specs.Witnesses.{Witness, sequence, Parts, soon, twice, witnesses, otherRun, others, senders, idleRun, idlers, tightRun, roomless, fullBoard, fullOrders}
+use Rattle.diffusion.proofs.Compared.{sameEntry, sameLog, same-log, tells, started-told}
 use Rattle.diffusion.proofs.Decided.{implies, sameCopy, hands, sentBy, sent, eachHanded, joins, sentAt, faultTests, closeTest, roomTest, wasSent, arrivesTest, isHanded, unfaulty, kept, noLossTest, keepsPremises, decided, roomy, keeps, within-premises}
-
--- two entries of a log, and two logs, are the same
-sameEntry : ℕ × Carried → ℕ × Carried → Bool
-sameEntry a b = eqb (a .0) (b .0) && (eqb (a .1 .stamp) (b .1 .stamp) && (eqb (a .1 .source) (b .1 .source) && sameOrder (a .1 .order) (b .1 .order)))
-
-sameLog : List (ℕ × Carried) → List (ℕ × Carried) → Bool
-sameLog [] [] = true
-sameLog [] (b ∷ m) = false
-sameLog (a ∷ l) [] = false
-sameLog (a ∷ l) (b ∷ m) = sameEntry a b && sameLog l m
-
-same-log : (l : List (ℕ × Carried)) → sameLog l l ≡ true
-unfolding sameLog sameEntry
-same-log [] = refl
-same-log (a ∷ l) = rw (eq-eqb (a .0) (a .0) refl, eq-eqb (a .1 .stamp) (a .1 .stamp) refl, eq-eqb (a .1 .source) (a .1 .source) refl, equal-same (a .1 .order) (a .1 .order) refl, same-log l)
 
 -- host p is faultless and has reached the reading
 standTests : Witness → ℕ → List Bool
@@ -87,6 +73,9 @@ record Computed : Type 0 where
   other-keeps : keeps (twoHosts 0) (fresh (twoHosts 0) 1) startsOther otherRun ≡ true
   other-starts : Starts-at others otherRun 0 0 soon
   other-delivers : delivers others otherRun 1 4 ≡ begun 0 (Resume 7) ∷ []
+  sent-keeps : keeps (twoHosts 0) (fresh (twoHosts 0) 1) sendsOther otherRun ≡ true
+  sent-delivers : delivers senders otherRun 1 4 ≡ begun 0 (Resume 7) ∷ []
+  untold : each 2 (λ p. each 4 (λ t. not (any (tells (Resume 7)) (callsAt otherRun p t)))) ≡ true
   idle-keeps : keeps (twoHosts 0) (fresh (twoHosts 0) 1) idle idleRun ≡ true
   idle-refuses : Refuses-at idlers idleRun 0 0 14
   room-keeps : keepsPremises (twoHosts 0) roomless tightRun (λ u room s. true) ≡ true
@@ -97,7 +86,7 @@ record Computed : Type 0 where
   well : (has 0 0 ≡ false) × (has 0 1 ≡ false)
 
 computed : Computed
-unfolding sameLog sameEntry listed boardBy board.sound imagesAfter boardTests partTests standTests keeps roomy keepsPremises implies sameCopy hands sentBy sent eachHanded joins sentAt faultTests closeTest roomTest wasSent arrivesTest isHanded unfaulty kept noLossTest Some log before run soundTests setOf startTests receiveTests tickTests allOf anyOf some each largest least has inRange same badLink badLinks survives via within distance farthest diameter worstLinks worst bound window planTests ones
+unfolding tells sameLog sameEntry listed boardBy board.sound imagesAfter boardTests partTests standTests keeps roomy keepsPremises implies sameCopy hands sentBy sent eachHanded joins sentAt faultTests closeTest roomTest wasSent arrivesTest isHanded unfaulty kept noLossTest Some log before run soundTests setOf startTests receiveTests tickTests allOf anyOf some each largest least has inRange same badLink badLinks survives via within distance farthest diameter worstLinks worst bound window planTests ones
 computed =
     record {
       parting = refl;
@@ -107,6 +96,9 @@ computed =
       other-keeps = refl;
       other-starts = inl (refl, tt);
       other-delivers = refl;
+      sent-keeps = refl;
+      sent-delivers = refl;
+      untold = refl;
       idle-keeps = refl;
       idle-refuses = inl refl;
       room-keeps = refl;
@@ -150,6 +142,19 @@ held-otherwise = (
 
     no-halt : In soon (delivers others otherRun 1 4) → ⊥
     no-halt i = other (subst (In soon) (computed .other-delivers) i)
+
+-- host 1 delivers at reading 4 what no host was told to start
+pub unstarted-fails : Premises (twoHosts 0) senders otherRun × (Claims (twoHosts 0) senders otherRun → ⊥)
+unstarted-fails = (
+  within-premises (twoHosts 0) (fresh (twoHosts 0) 1) sendsOther otherRun (computed .sent-keeps),
+  λ C. nobody (C .started 1 4 (begun 0 (Resume 7)) (omega arith) (subst (In (begun 0 (Resume 7))) (sym (computed .sent-delivers)) (inl refl))),
+)
+  where
+    nobody : (s : ℕ) × (u : ℕ) × (s < 2) × (u < 4) × Starts-at senders otherRun s u (begun 0 (Resume 7)) → ⊥
+    nobody r =
+        let told = started-told senders (r .0) (reading otherRun (r .0) (r .1)) (begun 0 (Resume 7)) _ (callsAt otherRun (r .0) (r .1)) (r .4) in
+        let none = each-true _ 4 (each-true _ 2 (computed .untold) (r .0) (r .2)) (r .1) (r .3) in
+        true≢false (sym told ∙ not-true _ none)
 
 -- host 0 refuses 14 with an empty history
 pub idle-fails : Premises (twoHosts 0) idlers idleRun × (Claims (twoHosts 0) idlers idleRun → ⊥)

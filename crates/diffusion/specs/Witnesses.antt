@@ -159,6 +159,10 @@ witnesses = lateCopy ∷ twice ∷ shortBound ∷ skewed ∷ unplanned ∷ whole
 abbrev pub others : hosts.Host
 others = hostsOf (fresh (twoHosts 0) 1) startsOther
 
+-- what is sent is another order than the one that is held, and so is delivered though no host started it
+abbrev pub senders : hosts.Host
+senders = hostsOf (fresh (twoHosts 0) 1) sendsOther
+
 -- a host that refuses every start
 abbrev pub idleRun : Story
 idleRun = story (0 ∷ 0 ∷ []) 5 (faulty 0 0) (told 0 0 (Halt 7) ∷ [])

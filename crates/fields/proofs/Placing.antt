@@ -8,7 +8,7 @@ use native.Mathlib.Omega.{arith}
 use borrow.Author.Tests.{le-leb, lt-leb, leb-true, leb-false, not-true, not-false}
 use lib.Dec.{leb}
 use lib.ListN.{length, set, take, drop, length-append, take-append-drop}
-use lib.Seq.{sets, sets-eq, length-sets}
+use lib.Seq.{sets, sets-eq, length-sets, set-comm}
 use Rattle.lists.specs.Bytes.{be}
 use Rattle.lists.proofs.ByteLaws.{length-be, be-more}
 use Rattle.fields.specs.Fields.{field, placed}
@@ -20,11 +20,24 @@ sets-append l i (a ∷ vs) ws =
     ∙ ap (λ (k : ℕ). sets (sets (set l i a) (suc i) vs) k ws) (suc-add i (length vs) ∙ sym (add-suc i (length vs)))
 
 -- one byte more
-pub sets-more : (l : List ℕ) (at k x : ℕ) → 0 < k → set (sets l at (be (k - 1) (x / 256))) (at + (k - 1)) (x % 256) ≡ sets l at (be k x)
+sets-more : (l : List ℕ) (at k x : ℕ) → 0 < k → set (sets l at (be (k - 1) (x / 256))) (at + (k - 1)) (x % 256) ≡ sets l at (be k x)
 sets-more l at k x h =
     ap (λ (n : ℕ). set (sets l at (be (k - 1) (x / 256))) (at + n) (x % 256)) (sym (length-be (k - 1) (x / 256)))
     ∙ sym (sets-append l at (be (k - 1) (x / 256)) ((x % 256) ∷ []))
     ∙ ap (sets l at) (sym (be-more k x h))
+
+-- a store behind a run of bytes may come before the run
+sets-set : (l : List ℕ) (at j v : ℕ) (vs : List ℕ) → at + length vs ≤ j → sets (set l j v) at vs ≡ set (sets l at vs) j v
+sets-set l at j v [] h = refl
+sets-set l at j v (a ∷ vs) h =
+    ap (λ (t : List ℕ). sets t (suc at) vs) (set-comm l j at v a (λ e. omega arith))
+    ∙ sets-set (set l at a) (suc at) j v vs (omega arith)
+
+-- the last byte first
+pub sets-last : (l : List ℕ) (at k x : ℕ) → 0 < k → sets (set l (at + (k - 1)) (x % 256)) at (be (k - 1) (x / 256)) ≡ sets l at (be k x)
+sets-last l at k x h =
+    let e : length (be (k - 1) (x / 256)) ≡ k - 1 = length-be (k - 1) (x / 256) in
+    sets-set l at (at + (k - 1)) (x % 256) (be (k - 1) (x / 256)) (omega arith) ∙ sets-more l at k x h
 
 module _ (l : List ℕ) (at : ℕ) (bs : List ℕ) where
   pub placed-sets : at + length bs ≤ length l → sets l at bs ≡ placed l at bs

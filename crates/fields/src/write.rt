@@ -45,14 +45,16 @@ fn has_room(len: usize, at: usize, n: usize) -> bool
     true
 }
 
+// Byte by byte from behind: a loop, as a compiler turns it into one store of the whole number where the width is known.
 fn store(out: &mut [u8], at: usize, width: u8, x: u64)
     requires { ⌜ at + width ≤ length (now out) ⌝ }
     ensures { λ _. ⌜ now (out .exit) ≡ sets (now (out .entry)) at (be width x) ⌝ }
 {
-    if width == 0 {
-        return;
+    let mut left = x;
+    let mut i = width as usize;
+    while 0 < i {
+        i -= 1;
+        out[at + i] = (left % 256) as u8;
+        left = left / 256;
     }
-    let before = width - 1;
-    store(out, at, before, x / 256);
-    out[at + before as usize] = (x % 256) as u8;
 }

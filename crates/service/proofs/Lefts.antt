@@ -45,9 +45,13 @@ module _ (f : HostMemory) (j k : ℕ) (after other given : Host) (is : given ≡
   pub left-fitting : fits f ≡ true → cond (eqb j 0) (hostMemory given) f ≡ unless (cond (fits f) k 9) (hostMemory after) f
   left-fitting e = left ∙ ap (λ (b : Bool). unless (cond b k 9) (hostMemory after) f) (sym e)
 
--- a tick that is accepted delivers at most 32
+-- a tick that is accepted delivers all that is due, at most 32
+pub told-count : (h : Host) (u room n : ℕ) → record { refusal = 0; count = n } ≡ tickSays h u room → (tickRefusal h u room ≡ 0) × (n ≡ length (dueOf h u))
+told-count h u room n e =
+    let k : tickRefusal h u room ≡ 0 = sym (said-tick (tickRefusal h u room) (length (dueOf h u))) ∙ sym (ap (λ (s : SaidTick). s .refusal) e) in
+    (k, ap (λ (s : SaidTick). s .count) e ∙ ap (λ (t : ℕ). saidByTick t (length (dueOf h u)) .count) k)
+
 pub few-due : (h : Host) (u room n : ℕ) → record { refusal = 0; count = n } ≡ tickSays h u room → n ≤ 32
 few-due h u room n e =
-    let k : tickRefusal h u room ≡ 0 = sym (said-tick (tickRefusal h u room) (length (dueOf h u))) ∙ sym (ap (λ (s : SaidTick). s .refusal) e) in
-    let c : n ≡ length (dueOf h u) = ap (λ (s : SaidTick). s .count) e ∙ ap (λ (t : ℕ). saidByTick t (length (dueOf h u)) .count) k in
-    omega (arith, keep-both (due (h .bound) u) (heldOf h), held-most h, tick-is h u room k .sound .held, c)
+    let t = told-count h u room n e in
+    omega (arith, keep-both (due (h .bound) u) (heldOf h), held-most h, tick-is h u room (t .0) .sound .held, t .1)

@@ -2,6 +2,7 @@
 mod Forms
 mod Converts
 mod Lefts
+mod Still
 mod Sizes
 pub mod Through
 pub mod One

@@ -3,6 +3,7 @@ use crate::HostLeft;
 use crate::HostMemory;
 use crate::memory::host_from;
 use crate::memory::host_memory;
+use crate::memory::later;
 use crate::orders_in::order_from;
 use clock::Reading;
 use host::Acted;
@@ -129,6 +130,13 @@ pub(crate) fn left_by_tick(memory: HostMemory, u: u64, out: &mut [u8]) -> HostLe
             answer: number_of(refusal) as u64,
         },
         TickAnswer::Delivered(count) => {
+            // Most ticks deliver nothing, and the memory need not be made anew.
+            if count == 0 {
+                return HostLeft {
+                    memory: later(memory, Reading(u)),
+                    answer: 0,
+                };
+            }
             let after = ticked.host;
             HostLeft {
                 memory: host_memory(after),

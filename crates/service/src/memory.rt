@@ -11,6 +11,16 @@ ghost use mathlib.Core.Path.{_≡_};
 ghost use Rattle.host.specs.State.{noHeld};
 ghost use Rattle.service.specs.Memory.{heldFrom, heldFits, ownFrom, hostFrom, heldMemory, hostMemory};
 ghost use Rattle.service.specs.Calls.{fits};
+ghost use Rattle.service.specs.Inside.{isZero, memoryAt};
+
+// The memory at a later reading, all else as it was.
+pub(crate) fn later(memory: HostMemory, u: Reading) -> HostMemory
+    ensures { λ r. ⌜ r ≡ memoryAt memory u ⌝ }
+{
+    let mut after = memory;
+    after.last = u;
+    after
+}
 
 // What memory stands for, and whether each place of its history holds an order or zeros.
 pub(crate) struct Taken {
@@ -26,10 +36,14 @@ pub(crate) fn host_from(memory: HostMemory) -> Taken
     let mut fits = true;
     let mut i = 0;
     while i < 32 {
-        let e = places[i];
-        history[i] = held_from(e);
-        fits = fits & held_fits(e);
+        let at = i;
+        let e = places[at];
         i += 1;
+        // Zeros stand for what is there already.
+        if !is_zero(e) {
+            history[at] = held_from(e);
+            fits = fits & held_fits(e);
+        }
     }
     let plan = memory.plan;
     let last = memory.last;
@@ -57,6 +71,12 @@ fn no_held() -> Held
         source: 0,
         order: Order::Publish { image: 0, share: 0 },
     }
+}
+
+fn is_zero(e: HeldMemory) -> bool
+    ensures { λ r. ⌜ r ≡ isZero e ⌝ }
+{
+    (e.stamp.0 == 0) & (e.image == 0) & (e.source == 0) & (e.kind == 0) & (e.share == 0)
 }
 
 fn held_from(e: HeldMemory) -> Held

@@ -2,9 +2,10 @@
 use borrow.Author.Needs.{needs}
 use native.Mathlib.Omega.{arith}
 use mathlib.Core.Path.{_≡_, refl, sym, ap, _∙_}
-use mathlib.Core.Bool.{_&&_}
+use mathlib.Core.Bool.{Bool, _&&_}
 use mathlib.Core.List.{List, map}
-use Prim.Native.Nat.{ℕ, _-_, _≤_}
+use Prim.Native.Nat.{ℕ, _+_, _-_, _≤_}
+use borrow.Author.Tests.{not-false}
 use lib.ListN.{length, length-map, take, drop, set, getD}
 use Rattle.lists.specs.Lists.{all, pad}
 use Rattle.lists.proofs.Loops.{left-next, left-none, all-turn, all-end}
@@ -12,7 +13,8 @@ use Rattle.host.specs.declared.Held.{Held}
 use Rattle.host.specs.State.{noHeld}
 use Rattle.service.specs.declared.HeldMemory.{HeldMemory}
 use Rattle.service.specs.Memory.{heldFrom, heldFits}
-use Rattle.service.proofs.Converts.{fill-next, fill-all}
+use Rattle.service.proofs.Converts.{fill-next, fill-blank, fill-all}
+use Rattle.service.proofs.Forms.{zero-place}
 use Rattle.service.proofs.memory.host_from.Statement.{statement}
 use Rattle.service.proofs.memory.host_from.Tie as tie
 
@@ -38,6 +40,12 @@ mul-e c = search needs
 array-copy-out-e : tie.Need-array-copy-out-e Inv-loop μ-loop
 array-copy-out-e c = search needs
 
+add-i : tie.Need-add-i Inv-loop μ-loop
+add-i c = search needs
+
+is-zero-requires : tie.Need-is-zero-requires Inv-loop μ-loop
+is-zero-requires c κs = search needs
+
 held-from-requires : tie.Need-held-from-requires Inv-loop μ-loop
 held-from-requires c κs = search needs
 
@@ -50,22 +58,35 @@ array-set-from-history c = search needs
 held-fits-requires : tie.Need-held-fits-requires Inv-loop μ-loop
 held-fits-requires c κs = search needs
 
-add-i : tie.Need-add-i Inv-loop μ-loop
-add-i c = search needs
-
 loop-less : tie.Need-loop-less Inv-loop μ-loop
 loop-less c = search needs
 
 loop-again : tie.Need-loop-again Inv-loop μ-loop
 loop-again c =
-    let s = c .before .before .before .before .loop in
-    let l : List HeldMemory = c .before .before .before .before .before .before .before .args .memory .history in
-    let n : length l ≡ 32 = sym (length-map l _) ∙ c .before .before .before .before .before .before .before .good .0 .1 .1 .1 .1 .1 .1 .1 .1 .0 .1 .0 .1 in (
+    let s = c .before .before .before .before .before .before .loop in
+    let l : List HeldMemory = c .before .before .before .before .before .before .before .before .before .args .memory .history in
+    let n : length l ≡ 32 = sym (length-map l _) ∙ c .before .before .before .before .before .before .before .before .before .good .0 .1 .1 .1 .1 .1 .1 .1 .1 .0 .1 .0 .1 in (
       search needs,
       ap (λ (t : List Held). set t (s .i) (c .before .held-from .result)) (s .inv .1)
           ∙ ap (λ (x : Held). set (pad 32 noHeld (map heldFrom (take (s .i) l))) (s .i) x) (c .before .held-from .ensures)
           ∙ fill-next heldFrom 32 noHeld l none (s .i) (omega arith) (omega arith),
       all-turn heldFits (s .fits) (c .held-fits .result) (left-next l none (s .i) (omega arith)) (s .inv .2) (c .held-fits .ensures),
+    )
+
+loop-less-2 : tie.Need-loop-less-2 Inv-loop μ-loop
+loop-less-2 c = search needs
+
+loop-again-2 : tie.Need-loop-again-2 Inv-loop μ-loop
+loop-again-2 c =
+    let s = c .before .before .before .before .loop in
+    let l : List HeldMemory = c .before .before .before .before .before .before .before .args .memory .history in
+    let n : length l ≡ 32 = sym (length-map l _) ∙ c .before .before .before .before .before .before .before .good .0 .1 .1 .1 .1 .1 .1 .1 .1 .0 .1 .0 .1 in
+    let zero = zero-place (getD l (s .i) none) (sym (c .before .is-zero .ensures) ∙ not-false _ (c .if1 .left)) in (
+      search needs,
+      s .inv .1 ∙ fill-blank heldFrom 32 noHeld l none (s .i) (omega arith) (omega arith) (zero .0),
+      ap (λ (b : Bool). s .fits && (b && all heldFits (drop (s .i + 1) l))) (sym (zero .1))
+          ∙ ap (λ (t : List HeldMemory). s .fits && all heldFits t) (sym (left-next l none (s .i) (omega arith)))
+          ∙ s .inv .2,
     )
 
 own-from-requires : tie.Need-own-from-requires Inv-loop μ-loop
@@ -88,12 +109,15 @@ host-from-spec =
     loop-holds
     mul-e
     array-copy-out-e
+    add-i
+    is-zero-requires
     held-from-requires
     mul-history
     array-set-from-history
     held-fits-requires
-    add-i
     loop-less
     loop-again
+    loop-less-2
+    loop-again-2
     own-from-requires
     returns)
