@@ -62,7 +62,7 @@ right-value s (Withdraw image) e f = refl
 
 module _ (kind : ℕ) (k : isKind kind ≡ true) where
   -- what holds of the four kinds
-  by-kind : (P : ℕ → Type 0) → P 1 → P 2 → P 3 → P 4 → P kind
+  pub by-kind : (P : ℕ → Type 0) → P 1 → P 2 → P 3 → P 4 → P kind
   by-kind P p1 p2 p3 p4 =
       let low : 1 ≤ kind = leb-true 1 kind (and-left (leb 1 kind) (leb kind 4) k) in
       let high : kind ≤ 4 = leb-true kind 4 (and-right (leb 1 kind) (leb kind 4) k) in

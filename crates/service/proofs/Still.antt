@@ -3,16 +3,17 @@ use mathlib.Core.Path.{_≡_, refl, sym, ap, ap₂, _∙_, subst}
 use mathlib.Core.Bool.{Bool, true, false, cond, _&&_, true≢false}
 use mathlib.Core.Logic.{_⊎_, inl, inr}
 use mathlib.Core.List.{List, [], _∷_, map}
-use Prim.Native.Nat.{ℕ, _≤_, _<_}
+use Prim.Native.Nat.{ℕ, _<_}
 use native.Mathlib.Omega.{arith}
-use borrow.Author.Tests.{leb-true, eqb-true, eqb-false, eq-eqb}
-use lib.Dec.{ltb, leb, eqb}
+use borrow.Author.Tests.{eqb-true}
+use lib.Dec.{ltb, eqb}
 use lib.ListN.{length, length-map}
 use Rattle.lists.specs.Lists.{all}
 use Rattle.lists.proofs.Bools.{and-left, and-right, or-cases}
 use Rattle.clock.specs.declared.Reading.{Reading}
 use Rattle.orders.specs.declared.Order.the-variants.{Publish}
 use Rattle.orders.specs.Orders.{isKind, isShare}
+use Rattle.orders.proofs.Laws.{by-kind}
 use Rattle.network.proofs.Ranges.{ranges}
 use Rattle.host.specs.declared.Host.{Host}
 use Rattle.host.specs.Tick.{dueOf, afterTick}
@@ -40,21 +41,14 @@ module _ (t : Reading) (image source : ℕ) where
   order-there : (kind share : ℕ) → formed kind share ≡ true → There kind share
   order-there kind share = go (eqb kind 1) refl
     where
-      other : (a b c : Bool) → eqb kind 2 ≡ a → eqb kind 3 ≡ b → eqb kind 4 ≡ c → isKind kind ≡ true → (eqb kind 1 ≡ true → ⊥) → There kind 0
-      other true b c x y z k n = subst (λ (j : ℕ). There j 0) (sym (eqb-true kind 2 x)) refl
-      other false true c x y z k n = subst (λ (j : ℕ). There j 0) (sym (eqb-true kind 3 y)) refl
-      other false false true x y z k n = subst (λ (j : ℕ). There j 0) (sym (eqb-true kind 4 z)) refl
-      other false false false x y z k n =
-          let low : 1 ≤ kind = leb-true 1 kind (and-left (leb 1 kind) (leb kind 4) k) in
-          let high : kind ≤ 4 = leb-true kind 4 (and-right (leb 1 kind) (leb kind 4) k) in
-          let n1 : kind ≡ 1 → ⊥ = λ e. n (eq-eqb kind 1 e) in
-          absurd (omega (arith, n1, eqb-false kind 2 x, eqb-false kind 3 y, eqb-false kind 4 z))
+      other : isKind kind ≡ true → eqb kind 1 ≡ false → There kind 0
+      other k = by-kind kind k (λ j. eqb j 1 ≡ false → There j 0) (λ x. absurd (true≢false x)) (λ x. refl) (λ x. refl) (λ x. refl)
 
       go : (b : Bool) → eqb kind 1 ≡ b → cond b (isShare share) (isKind kind && eqb share 0) ≡ true → There kind share
       go true x e = subst (λ (j : ℕ). There j share) (sym (eqb-true kind 1 x)) (published share e)
       go false x e =
           subst (λ (j : ℕ). There kind j) (sym (eqb-true share 0 (and-right (isKind kind) (eqb share 0) e)))
-          (other (eqb kind 2) (eqb kind 3) (eqb kind 4) refl refl refl (and-left (isKind kind) (eqb share 0) e) (λ y. true≢false (sym y ∙ x)))
+          (other (and-left (isKind kind) (eqb share 0) e) x)
 
   -- a place that holds none
   none-there : (kind share : ℕ) → (eqb kind 0 && eqb image 0 && eqb share 0) ≡ true → There kind share
