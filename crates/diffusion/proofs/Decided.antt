@@ -26,7 +26,7 @@ use Rattle.host.specs.Tick.{dueOf}
 use Rattle.host.specs.declared.Host as state
 use Rattle.diffusion.specs.Hosts.{Copy, Call, start, receive, Answer, refused, accepted, Host, after, Sends, IsReceive}
 use Rattle.diffusion.specs.Ours.{hostsOf}
-use Rattle.diffusion.specs.Run.{Story, reading, callsAt, Some, before, ticked, Sends-at, Handed-at, Joins, Premises}
+use Rattle.diffusion.specs.Run.{Story, reading, callsAt, Some, before, ticked, Sends-at, Handed-at, Joins, Arrives, Premises}
 
 -- the test b is asked only where a passes
 unfoldable pub implies : Bool → Bool → Bool
@@ -199,8 +199,11 @@ module _ (P : Plan) (H : Host) (R : Story) (roomy : ℕ → ℕ → H .State →
   unfoldable pub noLossTest : Bool
   noLossTest = each (n P) (λ p. each (suc (R .end)) (λ t. each (m P) (λ k. each (n P) (kept p t k))))
 
+  unfoldable pub keepsOthers : Bool
+  keepsOthers = allOf (allOf faultTests ∷ leb 1 (δ P) ∷ closeTest ∷ roomTest ∷ noLossTest ∷ [])
+
   unfoldable pub keepsPremises : Bool
-  keepsPremises = allOf (allOf faultTests ∷ leb 1 (δ P) ∷ closeTest ∷ roomTest ∷ arrivesTest ∷ noLossTest ∷ [])
+  keepsPremises = keepsOthers && arrivesTest
 
   -- past the last tick nothing happens
   in-time : (Q : H .State → Call → Type 0) (p t : ℕ) → Some H Q (reading R p t) (ticked H R p t) (callsAt R p t) → t ≤ R .end
@@ -217,8 +220,7 @@ module _ (P : Plan) (H : Host) (R : Story) (roomy : ℕ → ℕ → H .State →
       let t = all-each _ e in
       record { hosts = ltb-true _ _ (t .0); links = ltb-true _ _ (t .1 .0); few-hosts = leb-true _ _ (t .1 .1 .0); few-links = leb-true _ _ (t .1 .1 .1 .0) }
 
-  arrives : arrivesTest ≡ true → (q t k : ℕ) (c : Copy) → q < n P → Handed-at H R q t k c
-      → (p : ℕ) × (u : ℕ) × Joins P k p q × (u < t) × (t ≤ u + δ P) × Sends-at H R p u c k
+  arrives : arrivesTest ≡ true → Arrives P H R
   unfolding arrivesTest wasSent sentAt
   arrives e q t k c hq h =
       let l = in-time (λ s d. IsReceive k c d) q t h in
@@ -264,17 +266,23 @@ module _ (P : Plan) (H : Host) (R : Story) (roomy : ℕ → ℕ → H .State →
       let one = implied (z .0 .1 k) _ (all-member _ (sentAt p t) every (z .0) (z .1)) (z .3) in
       handed-in-time t k q c pos (subst (λ (w : Copy). isHanded t k q w ≡ true) (sym (z .2)) one)
 
-  pub decided : ((U room : ℕ) (s : H .State) → roomy U room s ≡ true → H .lent U room s) → keepsPremises ≡ true → Premises P H R
-  unfolding keepsPremises closeTest roomTest
-  decided lends e =
-      let t = all-each _ e in
-      record {
-        faults = faults-are (t .0);
-        close = λ p q hp hq. ltb-true _ _ (each-true _ (n P) (each-true _ (n P) (t .1 .1 .0) p hp) q hq);
-        room = λ p u hp l. lends (reading R p u) (R .room p u) (before H R p u) (each-true _ (suc (R .end)) (each-true _ (n P) (t .1 .1 .1 .0) p hp) u (omega arith));
-        arrives = arrives (t .1 .1 .1 .1 .0);
-        no-loss = no-loss (leb-true _ _ (t .1 .0)) (t .1 .1 .1 .1 .1 .0);
-      }
+  module _ (lends : (U room : ℕ) (s : H .State) → roomy U room s ≡ true → H .lent U room s) where
+    -- all but that nothing else arrives
+    pub decided-but : keepsOthers ≡ true → Arrives P H R → Premises P H R
+    unfolding keepsOthers closeTest roomTest
+    decided-but e sent =
+        let t = all-each _ e in
+        record {
+          faults = faults-are (t .0);
+          close = λ p q hp hq. ltb-true _ _ (each-true _ (n P) (each-true _ (n P) (t .1 .1 .0) p hp) q hq);
+          room = λ p u hp l. lends (reading R p u) (R .room p u) (before H R p u) (each-true _ (suc (R .end)) (each-true _ (n P) (t .1 .1 .1 .0) p hp) u (omega arith));
+          arrives = sent;
+          no-loss = no-loss (leb-true _ _ (t .1 .0)) (t .1 .1 .1 .1 .0);
+        }
+
+    pub decided : keepsPremises ≡ true → Premises P H R
+    unfolding keepsPremises
+    decided e = decided-but (and-left keepsOthers arrivesTest e) (arrives (and-right keepsOthers arrivesTest e))
 
 -- ---- hosts that tick as ours
 
@@ -289,3 +297,8 @@ module _ (P : Plan) (first : ℕ → state.Host) (call : ℕ → state.Host → 
   pub within-premises : keeps ≡ true → Premises P (hostsOf first call) R
   unfolding keeps roomy
   within-premises e = decided P (hostsOf first call) R roomy (λ u room h q. leb-true (16 * length (dueOf h u)) room q) e
+
+  -- but for what arrives
+  pub within-but : keepsOthers P (hostsOf first call) R roomy ≡ true → Arrives P (hostsOf first call) R → Premises P (hostsOf first call) R
+  unfolding roomy
+  within-but = decided-but P (hostsOf first call) R roomy (λ u room h q. leb-true (16 * length (dueOf h u)) room q)

@@ -19,14 +19,14 @@ use Rattle.diffusion.specs.Run.{run, before, log, Premises, Claims}
 use Rattle.diffusion.specs.Ours.{called, ours}
 use Rattle.diffusion.specs.Boards.{boardBy, boardOf}
 use Rattle.diffusion.specs.Example.{casePlan, caseStory, halt, seven}
-use Rattle.diffusion.proofs.Decided.{implies, sameCopy, hands, sentBy, sent, eachHanded, joins, sentAt, faultTests, closeTest, roomTest, wasSent, arrivesTest, isHanded, unfaulty, kept, noLossTest, keepsPremises, roomy, keeps, within-premises}
+use Rattle.diffusion.proofs.Decided.{implies, sameCopy, hands, sentBy, sent, eachHanded, joins, sentAt, faultTests, closeTest, roomTest, wasSent, arrivesTest, isHanded, unfaulty, kept, noLossTest, keepsOthers, keepsPremises, roomy, keeps, within-premises}
 use Rattle.diffusion.proofs.Demand3.{demand-3}
 
 -- planning accepts the network, the run keeps the premises, and these are the logs of hosts 0, 1 and 2
 case-computed : (planRefusal casePlan ≡ 0) × (keeps casePlan (fresh casePlan 1) called caseStory ≡ true)
     × (map (λ p. log (ours casePlan) caseStory p 40) (0 ∷ 1 ∷ 2 ∷ []) ≡ ((28, halt) ∷ []) ∷ ((28, halt) ∷ []) ∷ ((28, halt) ∷ []) ∷ [])
     × (map (λ p. boardOf (ours casePlan) caseStory (seven (Offered 50)) p 40) (0 ∷ 1 ∷ 2 ∷ []) ≡ seven (Halted 50) ∷ seven (Halted 50) ∷ seven (Halted 50) ∷ [])
-unfolding boardBy board.sound imagesAfter boardTests keeps roomy keepsPremises implies sameCopy hands sentBy sent eachHanded joins sentAt faultTests closeTest roomTest wasSent arrivesTest isHanded unfaulty kept noLossTest log before run soundTests setOf startTests receiveTests tickTests allOf anyOf some each largest least has inRange same badLink badLinks survives via within distance farthest diameter worstLinks worst bound window planTests ones
+unfolding boardBy board.sound imagesAfter boardTests keeps roomy keepsOthers keepsPremises implies sameCopy hands sentBy sent eachHanded joins sentAt faultTests closeTest roomTest wasSent arrivesTest isHanded unfaulty kept noLossTest log before run soundTests setOf startTests receiveTests tickTests allOf anyOf some each largest least has inRange same badLink badLinks survives via within distance farthest diameter worstLinks worst bound window planTests ones
 case-computed = (refl, refl, refl, refl)
 
 pub case-premises : Premises casePlan (ours casePlan) caseStory

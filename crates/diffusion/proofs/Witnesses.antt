@@ -1,7 +1,7 @@
 -- Each witness keeps the premises, and in it two faultless hosts have delivered other sequences; computed. Assumes nothing.
 use mathlib.Core.Path.{_≡_, refl, sym, ap, _∙_, subst}
 use mathlib.Core.Logic.{inl, inr}
-use mathlib.Core.Bool.{Bool, true, false, not, _&&_, true≢false}
+use mathlib.Core.Bool.{Bool, true, false, not, true≢false}
 use mathlib.Core.List.{List, [], _∷_, map}
 use Prim.Native.Nat.{ℕ, _+_, _<_}
 use native.Mathlib.Omega.{arith}
@@ -14,11 +14,10 @@ use Rattle.lists.specs.Members.{In, All}
 use Rattle.lists.specs.Tests.{allOf, anyOf}
 use Rattle.lists.specs.Searches.{some, each, largest, least}
 use Rattle.lists.proofs.Listed.{all-member}
-use Rattle.lists.proofs.SearchLaws.{each-true}
 use Rattle.lists.proofs.MemberLaws.{in-all}
 use Rattle.lists.proofs.TestLaws.{all-each}
 use Rattle.orders.specs.Orders.{kindOf, imageOf}
-use Rattle.orders.specs.declared.Order.the-variants.{Publish, Resume, Withdraw}
+use Rattle.orders.specs.declared.Order.the-variants.{Publish, Halt, Resume, Withdraw}
 use Rattle.network.specs.Network.{n, inRange, same, badLink, badLinks, has, survives, via, within, distance, farthest, diameter, worstLinks, worst, bound, window, planTests, planRefusal, Survivor}
 use Rattle.host.specs.State.{soundTests}
 use Rattle.board.specs.Board as board
@@ -29,13 +28,14 @@ use Rattle.host.specs.Start.{startTests}
 use Rattle.host.specs.Receive.{receiveTests}
 use Rattle.host.specs.Tick.{tickTests}
 use Rattle.diffusion.specs.Hosts.{Carried}
-use Rattle.diffusion.specs.Run.{reading, callsAt, run, Some, before, delivers, log, Starts-at, Refuses-at, Premises, Claims}
+use Rattle.diffusion.specs.Run.{reading, callsAt, run, Some, before, delivers, log, Starts-at, Refuses-at, Arrives, Premises, Claims}
+use Rattle.diffusion.specs.Ours.{called, ours}
 use Rattle.diffusion.specs.Boards.{boardBy, offers, Full, Frees, None}
 use Rattle.diffusion.specs.Example.{begun, twoHosts}
 use Rattle.diffusion.specs.Variants.{startsOther, sendsOther, idle}
-use Rattle.diffusion.specs.Witnesses.{Witness, sequence, Parts, soon, twice, witnesses, otherRun, others, senders, idleRun, idlers, tightRun, roomless, fullBoard, fullOrders}
-use Rattle.diffusion.proofs.Compared.{sameEntry, sameLog, same-log, tells, started-told}
-use Rattle.diffusion.proofs.Decided.{implies, sameCopy, hands, sentBy, sent, eachHanded, joins, sentAt, faultTests, closeTest, roomTest, wasSent, arrivesTest, isHanded, unfaulty, kept, noLossTest, keepsPremises, decided, roomy, keeps, within-premises}
+use Rattle.diffusion.specs.Witnesses.{Witness, sequence, Parts, soon, twice, witnesses, otherRun, others, senders, forgedRun, idleRun, idlers, tightRun, roomless, fullBoard, fullOrders}
+use Rattle.diffusion.proofs.Compared.{sameEntry, sameLog, same-log, tells, nobody}
+use Rattle.diffusion.proofs.Decided.{implies, sameCopy, hands, sentBy, sent, eachHanded, joins, sentAt, faultTests, closeTest, roomTest, wasSent, arrivesTest, isHanded, unfaulty, kept, noLossTest, keepsOthers, keepsPremises, decided, roomy, keeps, within-premises, within-but}
 
 -- host p is faultless and has reached the reading
 standTests : Witness → ℕ → List Bool
@@ -76,6 +76,9 @@ record Computed : Type 0 where
   sent-keeps : keeps (twoHosts 0) (fresh (twoHosts 0) 1) sendsOther otherRun ≡ true
   sent-delivers : delivers senders otherRun 1 4 ≡ begun 0 (Resume 7) ∷ []
   untold : each 2 (λ p. each 4 (λ t. not (any (tells (Resume 7)) (callsAt otherRun p t)))) ≡ true
+  forged-keeps : keepsOthers (twoHosts 0) (ours (twoHosts 0)) forgedRun roomy ≡ true
+  forged-delivers : delivers (ours (twoHosts 0)) forgedRun 1 4 ≡ soon ∷ []
+  forged-untold : each 2 (λ p. each 4 (λ t. not (any (tells (Halt 7)) (callsAt forgedRun p t)))) ≡ true
   idle-keeps : keeps (twoHosts 0) (fresh (twoHosts 0) 1) idle idleRun ≡ true
   idle-refuses : Refuses-at idlers idleRun 0 0 14
   room-keeps : keepsPremises (twoHosts 0) roomless tightRun (λ u room s. true) ≡ true
@@ -86,7 +89,7 @@ record Computed : Type 0 where
   well : (has 0 0 ≡ false) × (has 0 1 ≡ false)
 
 computed : Computed
-unfolding tells sameLog sameEntry listed boardBy board.sound imagesAfter boardTests partTests standTests keeps roomy keepsPremises implies sameCopy hands sentBy sent eachHanded joins sentAt faultTests closeTest roomTest wasSent arrivesTest isHanded unfaulty kept noLossTest Some log before run soundTests setOf startTests receiveTests tickTests allOf anyOf some each largest least has inRange same badLink badLinks survives via within distance farthest diameter worstLinks worst bound window planTests ones
+unfolding tells sameLog sameEntry listed boardBy board.sound imagesAfter boardTests partTests standTests keeps roomy keepsOthers keepsPremises implies sameCopy hands sentBy sent eachHanded joins sentAt faultTests closeTest roomTest wasSent arrivesTest isHanded unfaulty kept noLossTest Some log before run soundTests setOf startTests receiveTests tickTests allOf anyOf some each largest least has inRange same badLink badLinks survives via within distance farthest diameter worstLinks worst bound window planTests ones
 computed =
     record {
       parting = refl;
@@ -99,6 +102,9 @@ computed =
       sent-keeps = refl;
       sent-delivers = refl;
       untold = refl;
+      forged-keeps = refl;
+      forged-delivers = refl;
+      forged-untold = refl;
       idle-keeps = refl;
       idle-refuses = inl refl;
       room-keeps = refl;
@@ -143,18 +149,20 @@ held-otherwise = (
     no-halt : In soon (delivers others otherRun 1 4) → ⊥
     no-halt i = other (subst (In soon) (computed .other-delivers) i)
 
--- host 1 delivers at reading 4 what no host was told to start
+-- host 1 delivers at reading 4 what no host was told to start, since another order is sent than the one that is held ..
 pub unstarted-fails : Premises (twoHosts 0) senders otherRun × (Claims (twoHosts 0) senders otherRun → ⊥)
 unstarted-fails = (
   within-premises (twoHosts 0) (fresh (twoHosts 0) 1) sendsOther otherRun (computed .sent-keeps),
-  λ C. nobody (C .started 1 4 (begun 0 (Resume 7)) (omega arith) (subst (In (begun 0 (Resume 7))) (sym (computed .sent-delivers)) (inl refl))),
+  λ C. nobody senders otherRun (begun 0 (Resume 7)) (computed .untold) (C .started 1 4 (begun 0 (Resume 7)) (omega arith) (subst (In (begun 0 (Resume 7))) (sym (computed .sent-delivers)) (inl refl))),
 )
-  where
-    nobody : (s : ℕ) × (u : ℕ) × (s < 2) × (u < 4) × Starts-at senders otherRun s u (begun 0 (Resume 7)) → ⊥
-    nobody r =
-        let told = started-told senders (r .0) (reading otherRun (r .0) (r .1)) (begun 0 (Resume 7)) _ (callsAt otherRun (r .0) (r .1)) (r .4) in
-        let none = each-true _ 4 (each-true _ 2 (computed .untold) (r .0) (r .2)) (r .1) (r .3) in
-        true≢false (sym told ∙ not-true _ none)
+
+-- .. or since a copy arrives that no host sent, though all else that is taken for granted holds
+pub forged-fails : (Arrives (twoHosts 0) (ours (twoHosts 0)) forgedRun → Premises (twoHosts 0) (ours (twoHosts 0)) forgedRun)
+    × (Claims (twoHosts 0) (ours (twoHosts 0)) forgedRun → ⊥)
+forged-fails = (
+  within-but (twoHosts 0) (fresh (twoHosts 0) 1) called forgedRun (computed .forged-keeps),
+  λ C. nobody (ours (twoHosts 0)) forgedRun soon (computed .forged-untold) (C .started 1 4 soon (omega arith) (subst (In soon) (sym (computed .forged-delivers)) (inl refl))),
+)
 
 -- host 0 refuses 14 with an empty history
 pub idle-fails : Premises (twoHosts 0) idlers idleRun × (Claims (twoHosts 0) idlers idleRun → ⊥)

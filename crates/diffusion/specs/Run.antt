@@ -103,6 +103,11 @@ Joins P k p q = (k < m P) × (((link P k .a ≡ p) × (link P k .b ≡ q)) ⊎ (
 
 -- ---- what is taken for granted, a field for each sentence of demand 3
 
+-- "takes between 1 tick and the planned delay .. as it was sent, and nothing else arrives": a copy that is handed over was sent, in time
+abbrev pub Arrives : Plan → Host → Story → Type 0
+Arrives P H R =
+    (q t k : ℕ) (c : Copy) → q < n P → Handed-at H R q t k c → (p : ℕ) × (u : ℕ) × Joins P k p q × (u < t) × (t ≤ u + δ P) × Sends-at H R p u c k
+
 pub record Premises (P : Plan) (H : Host) (R : Story) : Type 0 where
   -- "Only faulty hosts or links, within the planned numbers"
   pub faults : FaultSet P (R .faults)
@@ -110,9 +115,7 @@ pub record Premises (P : Plan) (H : Host) (R : Story) : Type 0 where
   pub close : (p q : ℕ) → p < n P → q < n P → R .offset p < R .offset q + ε P
   -- "with room lent for all that is due"
   pub room : (p t : ℕ) → p < n P → t ≤ R .end → H .lent (reading R p t) (R .room p t) (before H R p t)
-  -- "takes between 1 tick and the planned delay .. as it was sent, and nothing else arrives"
-  pub arrives : (q t k : ℕ) (c : Copy) → q < n P → Handed-at H R q t k c
-      → (p : ℕ) × (u : ℕ) × Joins P k p q × (u < t) × (t ≤ u + δ P) × Sends-at H R p u c k
+  pub arrives : Arrives P H R
   -- only a copy of a faulty sender, link or receiver is lost; any other arrives, if the run goes on till then
   pub no-loss : (p t k q : ℕ) (c : Copy) → Joins P k p q → Survivor P (R .faults) p → has (R .faults .links) k ≡ false → Survivor P (R .faults) q → Sends-at H R p t c k
       → (v : ℕ) × (t < v) × (v ≤ t + δ P) × (v ≤ R .end → Handed-at H R q v k c)

@@ -163,6 +163,10 @@ others = hostsOf (fresh (twoHosts 0) 1) startsOther
 abbrev pub senders : hosts.Host
 senders = hostsOf (fresh (twoHosts 0) 1) sendsOther
 
+-- a copy that no host sent: host 1 is handed a halt that no host is told to start
+abbrev pub forgedRun : Story
+forgedRun = story (0 ∷ 0 ∷ []) 5 (faulty 0 0) (handed 1 1 0 soon ∷ [])
+
 -- a host that refuses every start
 abbrev pub idleRun : Story
 idleRun = story (0 ∷ 0 ∷ []) 5 (faulty 0 0) (told 0 0 (Halt 7) ∷ [])
