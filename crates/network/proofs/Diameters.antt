@@ -70,6 +70,11 @@ module _ (p : Plan) (small : Small p) (f : Faults) where
     pub least-diameter : least (n p) (λ k. alike (paired all) (within p f k)) ≡ diameter p f
     least-diameter = least-from (n p) (diameter p f) _ (diameter-bound p f) near-all
 
+-- what reach leaves over of n links
+pub left-over : (p : Plan) (small : Small p) (hs ls all r : ℕ) → Pairs all (wanted p hs)
+    → r + least (n p) (λ k. alike (paired all) (within p (record { hosts = hs; links = ls }) k)) ≡ n p → n p - r ≡ diameter p (record { hosts = hs; links = ls })
+left-over p small hs ls all r is e = let d = least-diameter p small (record { hosts = hs; links = ls }) all is in omega (arith, d, e)
+
 -- ---- where the same links survive
 
 module _ (p : Plan) (hs ls ks : ℕ) (same : (i : ℕ) → i < m p → survives p (record { hosts = hs; links = ls }) i ≡ survives p (record { hosts = hs; links = ks }) i) where

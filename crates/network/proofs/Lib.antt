@@ -11,8 +11,10 @@ pub mod Connected
 pub mod Answers
 pub mod Survivors
 mod Halves
+mod Turns
 mod Nexts
 mod Diameters
+mod Outs
 pub mod Partings
 pub mod Limits
 pub mod One

@@ -30,16 +30,16 @@ pub both : {s t : Bool} → s ≡ true → t ≡ true → (s && t) ≡ true
 both e q = ap₂ (λ (s t : Bool). s && t) e q
 
 -- the two ways in which a link joins a and b
-Ways : Link → ℕ → ℕ → Type 0
+unfoldable pub Ways : Link → ℕ → ℕ → Type 0
 Ways l a b = ((a ≡ l .a) × (b ≡ l .b)) ⊎ ((b ≡ l .a) × (a ≡ l .b))
 
-ways : (l : Link) (a b : ℕ) → joins l a b ≡ true → Ways l a b
+pub ways : (l : Link) (a b : ℕ) → joins l a b ≡ true → Ways l a b
 unfolding joins Ways
 ways l a b e =
     ⊎-elim (λ q. inl (eqb-true a _ (and-left (eqb a (l .a)) _ q), eqb-true b _ (and-right (eqb a (l .a)) _ q)))
     (λ q. inr (eqb-true b _ (and-left (eqb b (l .a)) _ q), eqb-true a _ (and-right (eqb b (l .a)) _ q))) (or-cases (eqb a (l .a) && eqb b (l .b)) _ e)
 
-joined-by : (l : Link) (a b : ℕ) → Ways l a b → joins l a b ≡ true
+pub joined-by : (l : Link) (a b : ℕ) → Ways l a b → joins l a b ≡ true
 unfolding joins Ways
 joined-by l a b (inl (ea, eb)) = or-true-left _ _ (both (eq-eqb a (l .a) ea) (eq-eqb b (l .b) eb))
 joined-by l a b (inr (eb, ea)) = or-true-right (eqb a (l .a) && eqb b (l .b)) _ (both (eq-eqb b (l .a) eb) (eq-eqb a (l .b) ea))
@@ -49,7 +49,7 @@ module _ (p : Plan) (small : Small p) where
   host-low i h = let k = small .ends i h in let top = small .hosts in (omega arith, omega arith)
 
   -- one pair, one link
-  joins-once : (i l a b : ℕ) → i < m p → l < m p → joins (link p i) a b ≡ true → joins (link p l) a b ≡ true → i ≡ l
+  pub joins-once : (i l a b : ℕ) → i < m p → l < m p → joins (link p i) a b ≡ true → joins (link p l) a b ≡ true → i ≡ l
   unfolding Ways isPair
   joins-once i l a b hi hl ei el = go (ways (link p i) a b ei) (ways (link p l) a b el)
     where
