@@ -35,6 +35,9 @@ largest-halves a (suc b) f =
     assoc : (x y z : ℕ) → max x (max y z) ≡ max (max x y) z
     assoc x y z = omega arith
 
+pub from-zero : (k : ℕ) (f : ℕ → ℕ) → largest k (λ j. f (0 + j)) ≡ largest k f
+from-zero k f = ap (largest k) (fun-ext (λ j. ap f (zero-add j)))
+
 largest-first : (k : ℕ) (f : ℕ → ℕ) → 0 < k → ((j : ℕ) → 0 < j → j < k → f j ≡ 0) → largest k f ≡ f 0
 largest-first k f h e = le-antisymm (largest-le f k (f 0) at) (le-largest f k 0 h)
   where

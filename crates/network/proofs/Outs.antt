@@ -25,7 +25,7 @@ use Rattle.network.proofs.Nexts.{iff, both, Ways, ways, joined-by, join
 use Rattle.network.proofs.Diameters.{diameter-same}
 
 -- the pairs of one set that are not in another
-pub less : (s t : ℕ) (u v : ℕ → ℕ → Bool) → t < 2 ^ 64 → Pairs s u → Pairs t v → Pairs (bitAnd s ((2 ^ 64 - 1) - t)) (λ a b. u a b && not (v a b))
+less : (s t : ℕ) (u v : ℕ → ℕ → Bool) → t < 2 ^ 64 → Pairs s u → Pairs t v → Pairs (bitAnd s ((2 ^ 64 - 1) - t)) (λ a b. u a b && not (v a b))
 less s t u v h is it a b ha hb =
     has-and s _ (pair a b) ∙ ap₂ (λ (x y : Bool). x && y) (is a b ha hb) (has-not 64 t (pair a b) h (omega arith) ∙ ap not (it a b ha hb))
 
@@ -47,7 +47,7 @@ module _ (p : Plan) (small : Small p) (hs : ℕ) where
         apart false t u = refl
 
     -- the pairs that it joins go with it, as no other link joins them
-    pub link-out : (x t a b : ℕ) → t ≡ 2 ^ l → has x l ≡ false
+    link-out : (x t a b : ℕ) → t ≡ 2 ^ l → has x l ≡ false
         → (nextTo p (record { hosts = hs; links = x }) a b && not (joins (link p l) a b)) ≡ nextTo p (record { hosts = hs; links = x + t }) a b
     unfolding nextTo out
     link-out x t a b q e = iff _ _ fore back ∙ ap (λ (y : ℕ). nextTo p (out (x + y)) a b) (sym q)
@@ -72,6 +72,10 @@ module _ (p : Plan) (small : Small p) (hs : ℕ) where
             both (some-true (λ i. survives p (out x) i && joins (link p i) a b) (m p) i (s .1) (both (and-right (not (eqb i l)) _ on) by))
             (ap not (false-unless (joins (link p l) a b) (λ z. true≢false (sym (eq-eqb i l (joins-once p small i l a b (s .1) there by z)) ∙ other))))
 
+    pub link-less : (x t joined pairs : ℕ) → t ≡ 2 ^ l → has x l ≡ false → pairs < 2 ^ 64 → Pairs joined (nextTo p (record { hosts = hs; links = x })) → Pairs pairs (joins (link p l))
+        → Pairs (bitAnd joined ((2 ^ 64 - 1) - pairs)) (nextTo p (record { hosts = hs; links = x + t }))
+    link-less x t joined pairs q e h is it a b ha hb = less joined pairs _ _ h is it a b ha hb ∙ link-out x t a b q e
+
     -- a link that joins no survivors has a faulty end, so that it is gone whatever links are out
     dead : (x : ℕ) → has x l ≡ false → nextTo p (out x) (link p l .a) (link p l .b) ≡ false → (y : ℕ) → survives p (out y) l ≡ false
     unfolding survives nextTo out Ways
@@ -84,9 +88,9 @@ module _ (p : Plan) (small : Small p) (hs : ℕ) where
         ∙ some-false (λ i. survives p (out x) i && joins (link p i) (link p l .a) (link p l .b)) (m p) none l there))
 
     -- so with it out nothing is larger
-    pub not-tried : (x : ℕ) → ((y : ℕ) → survives p (record { hosts = hs; links = y }) l ≡ false) → has x l ≡ false → atLinks p hs (x + 2 ^ l) ≤ atLinks p hs x
+    pub not-tried : ((y : ℕ) → survives p (record { hosts = hs; links = y }) l ≡ false) → (x : ℕ) → has x l ≡ false → atLinks p hs (x + 2 ^ l) ≤ atLinks p hs x
     unfolding out
-    not-tried x off e =
+    not-tried off x e =
         then-le (leb (ones (x + 2 ^ l)) (L p)) (λ few.
         let more = ones-plus l x e in
         let fewer : ones x ≤ L p = let h = leb-true (ones (x + 2 ^ l)) (L p) few in omega (arith, more, h) in
@@ -141,13 +145,13 @@ module _ (p : Plan) (small : Small p) (hs : ℕ) where
           (ways (link p (s .0)) a b by))
 
   -- a host that goes out takes the pairs that it is in
-  pub host-out : (l x t a b : ℕ) → t ≡ 2 ^ l → has x l ≡ false → (wellBoth p x a b && not (eqb a l || eqb b l)) ≡ wellBoth p (x + t) a b
+  host-out : (l t a b : ℕ) → t ≡ 2 ^ l → has hs l ≡ false → (wellBoth p hs a b && not (eqb a l || eqb b l)) ≡ wellBoth p (hs + t) a b
   unfolding wellBoth well
-  host-out l x t a b q e =
-      four (well p x a) (well p x b) (eqb a l) (eqb b l)
-      ∙ ap₂ (λ (u v : Bool). u && v) (one (ltb a (n p)) (has x a) (eqb a l)) (one (ltb b (n p)) (has x b) (eqb b l))
-      ∙ ap₂ (λ (u v : Bool). (ltb a (n p) && not u) && (ltb b (n p) && not v)) (sym (has-plus l x a e)) (sym (has-plus l x b e))
-      ∙ ap (λ (y : ℕ). (ltb a (n p) && not (has (x + y) a)) && (ltb b (n p) && not (has (x + y) b))) (sym q)
+  host-out l t a b q e =
+      four (well p hs a) (well p hs b) (eqb a l) (eqb b l)
+      ∙ ap₂ (λ (u v : Bool). u && v) (one (ltb a (n p)) (has hs a) (eqb a l)) (one (ltb b (n p)) (has hs b) (eqb b l))
+      ∙ ap₂ (λ (u v : Bool). (ltb a (n p) && not u) && (ltb b (n p) && not v)) (sym (has-plus l hs a e)) (sym (has-plus l hs b e))
+      ∙ ap (λ (y : ℕ). (ltb a (n p) && not (has (hs + y) a)) && (ltb b (n p) && not (has (hs + y) b))) (sym q)
     where
       four : (s t c d : Bool) → ((s && t) && not (c || d)) ≡ ((s && not c) && (t && not d))
       four false t c d = refl
@@ -162,3 +166,16 @@ module _ (p : Plan) (small : Small p) (hs : ℕ) where
       one true false true = refl
       one true true false = refl
       one true false false = refl
+
+  pub host-less : (l t survivors pairs : ℕ) → t ≡ 2 ^ l → has hs l ≡ false → pairs < 2 ^ 64 → Pairs survivors (wellBoth p hs) → Pairs pairs (λ a b. eqb a l || eqb b l)
+      → Pairs (bitAnd survivors ((2 ^ 64 - 1) - pairs)) (wellBoth p (hs + t))
+  host-less l t survivors pairs q e h is it a b ha hb = less survivors pairs _ _ h is it a b ha hb ∙ host-out l t a b q e
+
+  -- the sets that the search over links starts with
+  pub all-wanted : (survivors : ℕ) → Pairs survivors (wellBoth p hs) → Pairs (bitOr survivors 9241421688590303745) (wanted p hs)
+  unfolding wanted
+  all-wanted survivors is a b ha hb = has-or survivors _ (pair a b) ∙ ap₂ (λ (s t : Bool). s || t) (is a b ha hb) (itself a b ha hb)
+
+  pub all-joined : (links survivors : ℕ) → Pairs links (linked p) → Pairs survivors (wellBoth p hs) → Pairs (bitAnd links survivors) (nextTo p (record { hosts = hs; links = 0 }))
+  all-joined links survivors it is a b ha hb =
+      has-and links survivors (pair a b) ∙ ap₂ (λ (s t : Bool). s && t) (it a b ha hb) (is a b ha hb) ∙ links-left a b

@@ -10,8 +10,8 @@ use Rattle.network.proofs.Nexts.{within-spreads}
 use Rattle.network.proofs.Diameters.{left-over}
 use Rattle.network.proofs.Halves.{full}
 use Rattle.network.proofs.Turns.{Turn, turn, stops, skips, meets}
-use Rattle.network.proofs.Outs.{less, link-out, dead-link, not-tried}
-use Prim.Native.Nat.{ℕ, _+_, _-_, _<_}
+use Rattle.network.proofs.Outs.{link-less, dead-link, not-tried}
+use Prim.Native.Nat.{ℕ, _-_, _<_}
 use borrow.Fn.Kinds.{In}
 use borrow.Fn.PlainCycle.{Measures, is, falls, and}
 use Rattle.network.proofs.worst.links_out.Reads as links-out
@@ -91,19 +91,20 @@ links-out-ends-requires t c κs =
 
 links-out-links-out-requires : (t : ℕ) → links-out-lts.Need-links-out-requires (calls t) (links-out-at t) links-out.Post
 links-out-links-out-requires t c κs =
-    (let h = turn-of t (c .before .before .before) .some-left in omega arith, (c .before .before .before .before .pre .1 .0, turn-of t (c .before .before .before) .next-without))
+    let s = turn-of t (c .before .before .before) in
+    let falls-by-one = s .some-left in
+    (omega arith, (c .before .before .before .before .pre .1 .0, s .next-without))
 
 links-out-returns-2 : (t : ℕ) → links-out-lts.Need-returns-2 (calls t) (links-out-at t) links-out.Post
 links-out-returns-2 t c =
-    λ hs all joined.
+    λ hs all is.
         let g = c .before .before .before .before .before .args in
         let small = c .before .before .before .before .before .pre .1 .0 in
-        let there = turn-of t (c .before .before .before .before) .place in
-        let k = c .before .before .before .before .before .pre .1 .0 .ends (g .i - 1) there in
-        let h = small .hosts in
-        let off = dead-link (g .t1) small hs (g .i - 1) there (g .joined) (c .before .before .ends .result) (g .ls) (omega arith) (omega arith) (turn-of t (c .before .before .before .before) .not-in) joined (c .before .before .ends .ensures) (c .before .if2 .taken) in
-        skips (turn-of t (c .before .before .before .before)) (atLinks (g .t1) hs)
-        (λ x e. not-tried (g .t1) small hs (g .i - 1) there x off e) (c .links-out .ensures hs all joined)
+        let s = turn-of t (c .before .before .before .before) in
+        let ends = small .ends (g .i - 1) (s .place) in
+        let hosts = small .hosts in
+        let off = dead-link (g .t1) small hs (g .i - 1) (s .place) (g .joined) (c .before .before .ends .result) (g .ls) (omega arith) (omega arith) (s .not-in) is (c .before .before .ends .ensures) (c .before .if2 .taken) in
+        skips s (atLinks (g .t1) hs) (not-tried (g .t1) small hs (g .i - 1) (s .place) off) (c .links-out .ensures hs all is)
 
 links-out-cast-links-out : (t : ℕ) → links-out-lts.Need-cast-links-out (calls t) (links-out-at t) links-out.Post
 links-out-cast-links-out t c = search needs
@@ -117,22 +118,23 @@ links-out-add-links-out t c =
 
 links-out-links-out-requires-2 : (t : ℕ) → links-out-lts.Need-links-out-requires-2 (calls t) (links-out-at t) links-out.Post
 links-out-links-out-requires-2 t c κs =
-    (let h = turn-of t (c .before .before .before) .some-left in omega arith, (c .before .before .before .before .pre .1 .0, turn-of t (c .before .before .before) .next-with))
+    let s = turn-of t (c .before .before .before) in
+    let falls-by-one = s .some-left in
+    (omega arith, (c .before .before .before .before .pre .1 .0, s .next-with))
 
 links-out-returns-3 : (t : ℕ) → links-out-lts.Need-returns-3 (calls t) (links-out-at t) links-out.Post
 links-out-returns-3 t c =
     λ hs all is.
         let g = c .before .before .before .before .before .before .args in
-        let small = c .before .before .before .before .before .before .pre .1 .0 in
-        let there = turn-of t (c .before .before .before .before .before) .place in
-        stops (turn-of t (c .before .before .before .before .before)) (atLinks (g .t1) hs) (g .t1 .hosts) (atLinks-bound (g .t1) hs) (c .if3 .taken)
-        (c .before .links-out2 .ensures hs all (λ a b ha hb.
-        less (g .joined) (c .before .before .before .ends .result) _ _ (search needs) is (c .before .before .before .ends .ensures) a b ha hb
-        ∙ link-out (g .t1) small hs (g .i - 1) there (g .ls) _ a b (turn-of t (c .before .before .before .before .before) .top) (turn-of t (c .before .before .before .before .before) .not-in)))
+        let s = turn-of t (c .before .before .before .before .before) in
+        let left = link-less (g .t1) (c .before .before .before .before .before .before .pre .1 .0) hs (g .i - 1) (s .place) (g .ls) _ (g .joined) (c .before .before .before .ends .result) (s .top) (s .not-in) (search needs) is (c .before .before .before .ends .ensures) in
+        stops s (atLinks (g .t1) hs) (g .t1 .hosts) (atLinks-bound (g .t1) hs) (c .if3 .taken) (c .before .links-out2 .ensures hs all left)
 
 links-out-links-out-requires-3 : (t : ℕ) → links-out-lts.Need-links-out-requires-3 (calls t) (links-out-at t) links-out.Post
 links-out-links-out-requires-3 t c κs =
-    (let h = turn-of t (c .before .before .before .before .before) .some-left in omega arith, (c .before .before .before .before .before .before .pre .1 .0, turn-of t (c .before .before .before .before .before) .next-without))
+    let s = turn-of t (c .before .before .before .before .before) in
+    let falls-by-one = s .some-left in
+    (omega arith, (c .before .before .before .before .before .before .pre .1 .0, s .next-without))
 
 links-out-larger-requires : (t : ℕ) → links-out-lts.Need-larger-requires (calls t) (links-out-at t) links-out.Post
 links-out-larger-requires t c κs = search needs
@@ -141,13 +143,9 @@ links-out-returns-4 : (t : ℕ) → links-out-lts.Need-returns-4 (calls t) (link
 links-out-returns-4 t c =
     λ hs all is.
         let g = c .before .before .before .before .before .before .before .before .args in
-        let small = c .before .before .before .before .before .before .before .before .pre .1 .0 in
-        let there = turn-of t (c .before .before .before .before .before .before .before) .place in
-        meets (turn-of t (c .before .before .before .before .before .before .before)) (atLinks (g .t1) hs) (c .larger .ensures)
-        (c .before .before .before .links-out2 .ensures hs all (λ a b ha hb.
-        less (g .joined) (c .before .before .before .before .before .ends .result) _ _ (search needs) is (c .before .before .before .before .before .ends .ensures) a b ha hb
-        ∙ link-out (g .t1) small hs (g .i - 1) there (g .ls) _ a b (turn-of t (c .before .before .before .before .before .before .before) .top) (turn-of t (c .before .before .before .before .before .before .before) .not-in)))
-        (c .before .links-out3 .ensures hs all is)
+        let s = turn-of t (c .before .before .before .before .before .before .before) in
+        let left = link-less (g .t1) (c .before .before .before .before .before .before .before .before .pre .1 .0) hs (g .i - 1) (s .place) (g .ls) _ (g .joined) (c .before .before .before .before .before .ends .result) (s .top) (s .not-in) (search needs) is (c .before .before .before .before .before .ends .ensures) in
+        meets s (atLinks (g .t1) hs) (c .larger .ensures) (c .before .before .before .links-out2 .ensures hs all left) (c .before .links-out3 .ensures hs all is)
 
 pub +links-out-spec : {M : Type 1} → statement M
 +links-out-spec = close μ-links-out λ t. links-out-lts.spec (calls t)
