@@ -1,6 +1,6 @@
 -- What a link or a host that goes out changes: the pairs that surviving links join, the pairs of survivors, and the diameter. Assumes nothing.
 use mathlib.Core.Path.{_≡_, refl, sym, ap, ap₂, _∙_, subst}
-use mathlib.Core.Bool.{Bool, true, false, not, cond, _&&_, _||_, true≢false}
+use mathlib.Core.Bool.{Bool, true, false, not, cond, _&&_, _||_, true≢false, and-true}
 use mathlib.Core.Logic.{⊎-elim, inl, inr}
 use Prim.Native.Nat.{ℕ, _+_, _-_, _^_, _≤_, _<_}
 use native.Mathlib.Nat.{le-trans, le-of-eq, le-suc}
@@ -28,6 +28,14 @@ use Rattle.network.proofs.Diameters.{diameter-same}
 less : (s t : ℕ) (u v : ℕ → ℕ → Bool) → t < 2 ^ 64 → Pairs s u → Pairs t v → Pairs (bitAnd s ((2 ^ 64 - 1) - t)) (λ a b. u a b && not (v a b))
 less s t u v h is it a b ha hb =
     has-and s _ (pair a b) ∙ ap₂ (λ (x y : Bool). x && y) (is a b ha hb) (has-not 64 t (pair a b) h (omega arith) ∙ ap not (it a b ha hb))
+
+-- where no host is out, all are survivors
+pub all-well : (p : Plan) (square : ℕ) → Pairs square (λ a b. ltb a (n p) && ltb b (n p)) → Pairs square (wellBoth p 0)
+unfolding wellBoth well
+all-well p square is a b ha hb = is a b ha hb ∙ ap₂ (λ (s t : Bool). s && t) (sym (here a)) (sym (here b))
+  where
+    here : (c : ℕ) → (ltb c (n p) && not (has 0 c)) ≡ ltb c (n p)
+    here c = ap (λ (t : Bool). ltb c (n p) && not t) (has-none c) ∙ and-true (ltb c (n p))
 
 module _ (p : Plan) (small : Small p) (hs : ℕ) where
   out : ℕ → Faults
