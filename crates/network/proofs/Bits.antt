@@ -1,14 +1,14 @@
 -- The bits of a number, as `has` reads them: of the operations on numbers that hold sets, and of a number with one bit more. Assumes nothing.
-use mathlib.Core.Path.{_≡_, refl, sym, ap, ap₂, _∙_, subst}
+use mathlib.Core.Path.{_≡_, refl, sym, ap, ap₂, _∙_}
 use mathlib.Core.Bool.{Bool, true, false, not, _&&_, _||_}
 use Prim.Native.Nat.{ℕ, zero, suc, _+_, _-_, _*_, _/_, _%_, _^_, _≤_, _<_}
-use native.Mathlib.Nat.{one-mul, zero-add, div-one, div-eq-of-lt, mod-lt, pow-suc, lt-of-lt-of-le, zero-lt-suc, le-of-suc-le-suc, not-suc-le-zero, zero-div, div-add-mod'}
-use native.Mathlib.Numerals.{add-one, one-add}
+use native.Mathlib.Nat.{one-mul, zero-add, div-one, div-eq-of-lt, mod-lt, pow-suc, lt-of-lt-of-le, zero-lt-suc, le-of-suc-le-suc, not-suc-le-zero, zero-div}
+use native.Mathlib.Numerals.{one-add}
 use native.Mathlib.Omega.{arith}
-use borrow.Author.Tests.{eqb-true, eqb-false, eq-eqb, ne-eqb}
+use borrow.Author.Tests.{eqb-true, eqb-false, eq-eqb}
 use lib.Dec.{eqb, lit<, eqb·zero-suc, eqb·suc-zero, eqb·suc-suc}
 use lib.Count.{ones, ones-step}
-use lib.Pow.{shl-exact, shr-shr, shr-lt, pow-mono}
+use lib.Pow.{shl-exact, shr-shr, pow-mono}
 use lib.Bits.{bitAnd, bitOr, and-shr, and-mod, or-shr, or-mod}
 use Rattle.network.specs.Network.{has}
 

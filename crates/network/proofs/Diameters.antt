@@ -1,15 +1,15 @@
 -- The diameter is the least k at which all survivors are within k links of each other; and it is the same where the same links survive.
 -- Assumes nothing.
 use mathlib.Core.Path.{_≡_, refl, sym, ap, ap₂, _∙_, fun-ext}
-use mathlib.Core.Bool.{Bool, true, false, not, cond, _&&_, _||_, true≢false}
+use mathlib.Core.Bool.{Bool, true, false, not, cond, _&&_, _||_}
 use mathlib.Core.Logic.{⊎-elim}
 use Prim.Native.Nat.{ℕ, zero, suc, _+_, _-_, _≤_, _<_, zero-le}
 use native.Mathlib.Nat.{le-trans, lt-of-le-of-lt, lt-of-lt-of-le}
 use native.Mathlib.Omega.{arith}
 use borrow.Author.Tests.{eq-eqb, leb-true, le-leb, ltb-true, lt-ltb, not-true}
 use lib.Dec.{eqb, leb, ltb}
-use Rattle.lists.specs.Searches.{least, largest, some}
-use Rattle.lists.proofs.Bools.{false-unless, and-left, and-right, or-true-left, or-true-right, or-cases, else-le}
+use Rattle.lists.specs.Searches.{least, largest}
+use Rattle.lists.proofs.Bools.{and-left, and-right, or-true-left, or-true-right, or-cases, else-le}
 use Rattle.lists.proofs.SearchLaws.{some-same, largest-le}
 use Rattle.network.specs.Network.{n, m, link, has, survives, via, within, distance, farthest, diameter, Survivor}
 use Rattle.network.specs.Inside.{Small, Pairs, paired, alike, well, wellBoth, wanted}

@@ -1,15 +1,14 @@
 -- Laws of `within`, `distance`, `farthest`, `diameter` and the largest of these. Assumes nothing.
-use mathlib.Core.Path.{_≡_, sym, ap, _∙_, subst}
+use mathlib.Core.Path.{_≡_, sym, ap, _∙_}
 use mathlib.Core.Bool.{Bool, true, false, cond, _&&_, _||_, true≢false}
 use mathlib.Core.Logic.{⊎-elim}
 use Prim.Native.Nat.{ℕ, zero, suc, _≤_, _<_, _^_}
-use native.Mathlib.Nat.{le-trans, le-of-suc-le-suc}
+use native.Mathlib.Nat.{le-of-suc-le-suc}
 use native.Mathlib.Decide.{le-ind}
 use lib.Dec.{eqb, leb}
 use lib.Count.{ones}
-use Rattle.lists.specs.Searches.{each}
-use Rattle.lists.proofs.Bools.{false-unless, and-left, and-right, or-left, or-right, or-true-left, or-true-right, or-cases, then-le, else-le}
-use Rattle.lists.proofs.SearchLaws.{some-at, some-true, each-true, each-false, least-bound, least-le, least-hits, le-least, largest-le, le-largest}
+use Rattle.lists.proofs.Bools.{false-unless, and-left, and-right, or-true-left, or-true-right, or-cases, then-le, else-le}
+use Rattle.lists.proofs.SearchLaws.{some-at, some-true, least-bound, least-le, least-hits, le-least, largest-le}
 use Rattle.network.specs.Network.{n, m, π, L, link, has, survives, via, within, distance, farthest, diameter, worstLinks}
 use Rattle.network.specs.Inside.{atLinks, atHosts}
 use Rattle.network.specs.declared.Plan.{Plan}

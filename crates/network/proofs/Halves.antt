@@ -1,10 +1,10 @@
 -- Sets in halves: a set that has no place below l + 1 stands for the sets with the same places from there on. Half of these have place l,
 -- half have not, and where the set is full it stands for itself alone. Assumes nothing.
-use mathlib.Core.Path.{_≡_, refl, sym, ap, ap₂, _∙_, subst, fun-ext}
+use mathlib.Core.Path.{_≡_, refl, sym, ap, ap₂, _∙_, fun-ext}
 use mathlib.Core.Bool.{Bool, true, false, cond, _||_}
 use mathlib.Core.Logic.{⊎-elim}
 use Prim.Native.Nat.{ℕ, zero, suc, _+_, _-_, _*_, _/_, _%_, _^_, _≤_, _<_, zero-le, max}
-use native.Mathlib.Nat.{add-zero, zero-add, add-assoc, add-comm, add-mul, mul-assoc, mul-comm, mul-mod-left, zero-mod, one-mul, pow-suc, div-add-mod', le-refl, le-trans, le-of-eq, le-suc, le-antisymm, lt-of-lt-of-le, le-of-suc-le-suc, not-suc-le-zero}
+use native.Mathlib.Nat.{add-zero, zero-add, add-assoc, add-mul, mul-assoc, mul-comm, mul-mod-left, zero-mod, one-mul, pow-suc, div-add-mod', le-refl, le-trans, le-of-eq, le-suc, le-antisymm, not-suc-le-zero}
 use native.Mathlib.Omega.{arith}
 use borrow.Author.Tests.{eqb-true, eqb-false, leb-true, le-leb, lt-leb}
 use lib.Arith.{bin-ind}
@@ -150,7 +150,7 @@ module _ (l k most set : ℕ) (u : Upper (suc l) k most set) where
     pub lower-only : ((j : ℕ) → j < 2 ^ l → f (set + j + 2 ^ l) ≤ f (set + j)) → largest (2 ^ suc l) (λ j. f (set + j)) ≡ largest (2 ^ l) (λ j. f (set + j))
     lower-only low =
         let less = largest-le (λ j. f (set + t + j)) (2 ^ l) (largest (2 ^ l) (λ j. f (set + j)))
-            (λ j h. le-trans (le-of-eq (ap f (moved j))) (le-trans (low j h) (le-largest (λ j. f (set + j)) (2 ^ l) j h))) in
+        (λ j h. le-trans (le-of-eq (ap f (moved j))) (le-trans (low j h) (le-largest (λ j. f (set + j)) (2 ^ l) j h))) in
         let half = in-halves in
         omega (arith, less, half)
       where

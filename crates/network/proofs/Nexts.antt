@@ -1,23 +1,20 @@
 -- Pairs that surviving links join: how `within` spreads over them, what a link or a host that goes out takes from them. Assumes nothing.
 use mathlib.Core.Path.{_≡_, refl, sym, ap, ap₂, _∙_, subst}
-use mathlib.Core.Bool.{Bool, true, false, not, _&&_, _||_, true≢false}
+use mathlib.Core.Bool.{Bool, true, false, _&&_, _||_}
 use mathlib.Core.Logic.{_⊎_, inl, inr, ⊎-elim}
-use Prim.Native.Nat.{ℕ, zero, suc, _+_, _-_, _^_, _≤_, _<_}
+use Prim.Native.Nat.{ℕ, zero, suc, _-_, _<_}
 use native.Mathlib.Omega.{arith}
-use borrow.Author.Tests.{eqb-true, eqb-false, eq-eqb, lt-ltb, not-true}
-use lib.Dec.{eqb, ltb}
-use lib.Bits.{bitAnd, bitOr}
+use borrow.Author.Tests.{eqb-true, eq-eqb, lt-ltb}
+use lib.Dec.{eqb}
 use Rattle.lists.specs.Searches.{some}
-use Rattle.lists.specs.Tests.{allOf}
-use Rattle.lists.proofs.Bools.{false-unless, and-left, and-right, or-true-left, or-true-right, or-cases}
+use Rattle.lists.proofs.Bools.{and-left, and-right, or-true-left, or-true-right, or-cases}
 use Rattle.lists.proofs.SearchLaws.{some-at, some-true, some-same}
-use Rattle.lists.proofs.TestLaws.{all-each, each-all}
-use Rattle.network.specs.Network.{n, m, link, has, survives, via, within}
-use Rattle.network.specs.Inside.{Small, pair, Pairs, isPair, joins, linked, nextTo, spreads, Spreads, well, wellBoth, wanted}
+use Rattle.lists.proofs.TestLaws.{all-each}
+use Rattle.network.specs.Network.{n, m, link, survives, via, within}
+use Rattle.network.specs.Inside.{Small, Pairs, isPair, joins, nextTo, spreads, Spreads, well, wellBoth}
 use Rattle.network.specs.declared.Link.{Link}
 use Rattle.network.specs.declared.Plan.{Plan}
 use Rattle.network.specs.declared.Faults.{Faults}
-use Rattle.network.proofs.Bits.{has-none, has-and, has-or, has-not, has-plus}
 use Rattle.network.proofs.Survivors.{Next, next}
 
 -- tests that pass together are the same

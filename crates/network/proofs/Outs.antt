@@ -1,17 +1,16 @@
 -- What a link or a host that goes out changes: the pairs that surviving links join, the pairs of survivors, and the diameter. Assumes nothing.
-use mathlib.Core.Path.{_≡_, refl, sym, ap, ap₂, _∙_, subst}
-use mathlib.Core.Bool.{Bool, true, false, not, cond, _&&_, _||_, true≢false, and-true}
-use mathlib.Core.Logic.{⊎-elim, inl, inr}
+use mathlib.Core.Path.{_≡_, refl, sym, ap, ap₂, _∙_}
+use mathlib.Core.Bool.{Bool, true, false, not, _&&_, _||_, true≢false, and-true}
+use mathlib.Core.Logic.{⊎-elim, inl}
 use Prim.Native.Nat.{ℕ, _+_, _-_, _^_, _≤_, _<_}
-use native.Mathlib.Nat.{le-trans, le-of-eq, le-suc}
+use native.Mathlib.Nat.{le-trans, le-of-eq}
 use native.Mathlib.Omega.{arith}
 use borrow.Author.Tests.{eqb-true, eq-eqb, leb-true, le-leb, not-true}
 use lib.Dec.{eqb, leb, ltb}
 use lib.Bits.{bitAnd, bitOr}
 use lib.Count.{ones}
-use Rattle.lists.specs.Searches.{some}
 use Rattle.lists.specs.Tests.{allOf}
-use Rattle.lists.proofs.Bools.{false-unless, and-left, and-right, or-true-left, or-true-right, then-le}
+use Rattle.lists.proofs.Bools.{false-unless, and-left, and-right, then-le}
 use Rattle.lists.proofs.SearchLaws.{some-at, some-true, some-false}
 use Rattle.lists.proofs.TestLaws.{all-each, each-all}
 use Rattle.network.specs.Network.{n, m, L, link, has, survives, diameter}
@@ -66,7 +65,7 @@ module _ (p : Plan) (small : Small p) (hs : ℕ) where
             let i = s .0 in
             let by = and-right (survives p (out x) i) _ (s .2) in
             let other : eqb i l ≡ false =
-                false-unless (eqb i l) (λ z. true≢false (sym by ∙ ap (λ (y : ℕ). joins (link p y) a b) (eqb-true i l z) ∙ not-true _ (and-right (nextTo p (out x) a b) _ h))) in
+            false-unless (eqb i l) (λ z. true≢false (sym by ∙ ap (λ (y : ℕ). joins (link p y) a b) (eqb-true i l z) ∙ not-true _ (and-right (nextTo p (out x) a b) _ h))) in
             some-true (λ i. survives p (out (x + 2 ^ l)) i && joins (link p i) a b) (m p) i (s .1)
             (both (survives-out x i e ∙ both (ap not other) (and-left (survives p (out x) i) _ (s .2))) by)
 
@@ -140,7 +139,7 @@ module _ (p : Plan) (small : Small p) (hs : ℕ) where
           let wb = and-right (well p hs a) _ w in
           let l = link p (s .0) in
           let on : (not (has hs (l .a)) ≡ true) × (not (has hs (l .b)) ≡ true) =
-              ⊎-elim (λ q. (survivor a (l .a) (q .0) wa, survivor b (l .b) (q .1) wb)) (λ q. (survivor b (l .a) (q .0) wb, survivor a (l .b) (q .1) wa)) (ways l a b (s .2)) in
+          ⊎-elim (λ q. (survivor a (l .a) (q .0) wa, survivor b (l .b) (q .1) wb)) (λ q. (survivor b (l .a) (q .0) wb, survivor a (l .b) (q .1) wa)) (ways l a b (s .2)) in
           some-true (λ i. survives p (out 0) i && joins (link p i) a b) (m p) (s .0) (s .1) (both (each-all _ (ap not (has-none (s .0)), (on .0, (on .1, tt)))) (s .2))
 
       back : nextTo p (out 0) a b ≡ true → (linked p a b && wellBoth p hs a b) ≡ true

@@ -1,8 +1,8 @@
 -- What makes a link bad, by the pairs seen before it. Assumes nothing.
-use mathlib.Core.Path.{_≡_, refl, sym, ap, ap₂, _∙_}
+use mathlib.Core.Path.{_≡_, sym, ap, ap₂, _∙_}
 use mathlib.Core.Bool.{Bool, true, false, _&&_, _||_, and-true}
 use mathlib.Core.Logic.{⊎-elim}
-use Prim.Native.Nat.{ℕ, suc, _+_, _*_, _%_, _^_, _≤_, _<_}
+use Prim.Native.Nat.{ℕ, _+_, _*_, _%_, _^_, _<_}
 use native.Mathlib.Omega.{arith}
 use borrow.Author.Tests.{leb-false, lt-leb}
 use lib.Dec.{eqb, leb}
@@ -12,7 +12,7 @@ use Rattle.lists.specs.Tests.{allOf, anyOf}
 use Rattle.lists.proofs.Bools.{or-left, or-right, or-true-left, or-true-right, or-cases}
 use Rattle.lists.proofs.SearchLaws.{some-same, some-more}
 use Rattle.lists.proofs.TestLaws.{each-none}
-use Rattle.network.specs.Network.{n, link, has, same, badLink}
+use Rattle.network.specs.Network.{n, link, same, badLink}
 use Rattle.network.specs.Inside.{pair, Pairs, isPair}
 use Rattle.network.specs.declared.Plan.{Plan}
 use Rattle.network.proofs.Bits.{has-or}

@@ -1,7 +1,7 @@
 -- The product that `spread` is made of. A number of eight digits to the base 256 that are 0 or 1, times a row of one such digit, is the row
 -- at each digit that is 1: so the hosts a that are joined to c get the row of c. Assumes nothing.
 use mathlib.Core.Path.{_≡_, refl, sym, ap, ap₂, _∙_, subst}
-use mathlib.Core.Bool.{Bool, true, false, _&&_}
+use mathlib.Core.Bool.{Bool, true, _&&_}
 use Prim.Native.Nat.{ℕ, zero, suc, _+_, _-_, _*_, _/_, _%_, _^_, _≤_, _<_}
 use native.Mathlib.Nat.{add-comm, mul-le-mul, lt-of-le-of-lt, mul-add, mul-assoc, mul-zero, mul-one, div-one, mod-lt, zero-lt-suc, le-refl, le-trans, le-suc, le-of-suc-le-suc, not-suc-le-zero, div-add-mod'}
 use native.Mathlib.Omega.{arith}

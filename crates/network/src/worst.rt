@@ -32,7 +32,13 @@ fn hosts_out(p: Plan, links: u64, i: u8, hs: u32, survivors: u64) -> u8
         return links_out(p, survivors | ITSELF, p.link_count, 0, links & survivors);
     }
     let h = i - 1;
-    let d = hosts_out(p, links, h, hs + (1u32 << (h as u32)), survivors & !with_host(h));
+    let d = hosts_out(
+        p,
+        links,
+        h,
+        hs + (1u32 << (h as u32)),
+        survivors & !with_host(h),
+    );
     if d >= p.hosts {
         return d;
     }

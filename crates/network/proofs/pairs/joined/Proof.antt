@@ -1,5 +1,5 @@
 -- The invariant: the pairs of the links passed. Assumes nothing.
-use mathlib.Core.Path.{_≡_, sym, ap₂, _∙_}
+use mathlib.Core.Path.{sym, ap₂, _∙_}
 use mathlib.Core.Bool.{Bool, _||_}
 use Prim.Native.Nat.{ℕ, _-_, _≤_}
 use native.Mathlib.Omega.{arith}
@@ -43,9 +43,11 @@ loop-less : tie.Need-loop-less Inv-loop μ-loop
 loop-less c = search needs
 
 loop-again : tie.Need-loop-again Inv-loop μ-loop
-loop-again c =
-    (search needs, λ a b ha hb.
-    has-or _ (c .before .before .before .loop .pairs) (pair a b) ∙ ap₂ (λ (s t : Bool). s || t) (c .ends .ensures a b ha hb) (c .before .before .before .loop .inv .1 a b ha hb) ∙ sym (some-more (λ j. joins (link (c .before .before .before .before .before .before .args .p) j) a b) (c .before .before .before .loop .i)))
+loop-again c = (
+  search needs,
+  λ a b ha hb.
+      has-or _ (c .before .before .before .loop .pairs) (pair a b) ∙ ap₂ (λ (s t : Bool). s || t) (c .ends .ensures a b ha hb) (c .before .before .before .loop .inv .1 a b ha hb) ∙ sym (some-more (λ j. joins (link (c .before .before .before .before .before .before .args .p) j) a b) (c .before .before .before .loop .i)),
+)
 
 returns : tie.Need-returns Inv-loop μ-loop
 unfolding linked

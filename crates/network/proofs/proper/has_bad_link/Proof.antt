@@ -85,8 +85,7 @@ loop-again c =
     let i = c .before .before .before .before .before .before .before .before .before .loop .i in
     let o = ordered (link (c .before .before .before .before .before .before .before .before .before .before .before .before .args .p) (c .before .before .before .before .before .before .before .before .before .loop .i) .a) (link (c .before .before .before .before .before .before .before .before .before .before .before .before .args .p) (c .before .before .before .before .before .before .before .before .before .loop .i) .b) (c .before .before .before .before .before .before .before .before .before .before .before .before .args .p .hosts) (c .before .before .before .if1 .left) in
     let ha : link p i .a < 8 = omega arith in
-    let hb : link p i .b < 8 = omega arith in
-    (
+    let hb : link p i .b < 8 = omega arith in (
       search needs,
       some-again (badLink p) i (not-bad p i (o .0) (o .1) (sym (c .before .before .before .before .before .before .before .before .before .loop .inv .2 (link p i .a) (link p i .b) ha hb) ∙ ne-eqb _ _ (c .if2 .left))) (c .before .before .before .before .before .before .before .before .before .loop .inv .1),
       seen-more p i (c .before .before .before .before .before .before .before .before .before .loop .seen) ha hb (c .before .before .before .before .before .before .before .before .before .loop .inv .2),

@@ -1,5 +1,5 @@
 -- By recursion with i falling: place i - 1 in the set, or not. Assumes nothing.
-use mathlib.Core.Path.{_≡_, sym, _∙_}
+use mathlib.Core.Path.{sym, _∙_}
 use native.Mathlib.Omega.{arith}
 use borrow.Author.Needs.{needs}
 use Rattle.network.specs.Network.{n, m, π, L, worstLinks}

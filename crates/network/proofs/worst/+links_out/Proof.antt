@@ -1,5 +1,5 @@
 -- By recursion with i falling: place i - 1 in the set, or not. Assumes nothing.
-use mathlib.Core.Path.{_≡_, sym, _∙_}
+use mathlib.Core.Path.{sym, _∙_}
 use native.Mathlib.Omega.{arith}
 use borrow.Author.Needs.{needs}
 use Rattle.network.specs.Network.{m, L, within, diameter}
@@ -65,11 +65,11 @@ links-out-returns : (t : ℕ) → links-out-lts.Need-returns (calls t) (links-ou
 unfolding within
 links-out-returns t c =
     λ hs all joined.
-        let g = c .before .before .args in
-        let small = c .before .before .pre .1 .0 in
-        left-over (g .t1) small hs (g .ls) (g .all) _ all
-        (c .reach .ensures .1 (within (g .t1) (record { hosts = hs; links = g .ls })) itself (within-spreads (g .t1) small (record { hosts = hs; links = g .ls }) (g .joined) joined))
-        ∙ sym (full (g .i) (m (g .t1)) (L (g .t1)) (g .ls) (c .before .before .pre .1 .1) (c .before .if1 .taken) (λ x. diameter (g .t1) (record { hosts = hs; links = x })))
+    let g = c .before .before .args in
+    let small = c .before .before .pre .1 .0 in
+    left-over (g .t1) small hs (g .ls) (g .all) _ all
+    (c .reach .ensures .1 (within (g .t1) (record { hosts = hs; links = g .ls })) itself (within-spreads (g .t1) small (record { hosts = hs; links = g .ls }) (g .joined) joined))
+    ∙ sym (full (g .i) (m (g .t1)) (L (g .t1)) (g .ls) (c .before .before .pre .1 .1) (c .before .if1 .taken) (λ x. diameter (g .t1) (record { hosts = hs; links = x })))
 
 links-out-sub-l : (t : ℕ) → links-out-lts.Need-sub-l (calls t) (links-out-at t) links-out.Post
 links-out-sub-l t c =
@@ -98,13 +98,13 @@ links-out-links-out-requires t c κs =
 links-out-returns-2 : (t : ℕ) → links-out-lts.Need-returns-2 (calls t) (links-out-at t) links-out.Post
 links-out-returns-2 t c =
     λ hs all is.
-        let g = c .before .before .before .before .before .args in
-        let small = c .before .before .before .before .before .pre .1 .0 in
-        let s = turn-of t (c .before .before .before .before) in
-        let ends = small .ends (g .i - 1) (s .place) in
-        let hosts = small .hosts in
-        let off = dead-link (g .t1) small hs (g .i - 1) (s .place) (g .joined) (c .before .before .ends .result) (g .ls) (omega arith) (omega arith) (s .not-in) is (c .before .before .ends .ensures) (c .before .if2 .taken) in
-        skips s (atLinks (g .t1) hs) (not-tried (g .t1) small hs (g .i - 1) (s .place) off) (c .links-out .ensures hs all is)
+    let g = c .before .before .before .before .before .args in
+    let small = c .before .before .before .before .before .pre .1 .0 in
+    let s = turn-of t (c .before .before .before .before) in
+    let ends = small .ends (g .i - 1) (s .place) in
+    let hosts = small .hosts in
+    let off = dead-link (g .t1) small hs (g .i - 1) (s .place) (g .joined) (c .before .before .ends .result) (g .ls) (omega arith) (omega arith) (s .not-in) is (c .before .before .ends .ensures) (c .before .if2 .taken) in
+    skips s (atLinks (g .t1) hs) (not-tried (g .t1) small hs (g .i - 1) (s .place) off) (c .links-out .ensures hs all is)
 
 links-out-cast-links-out : (t : ℕ) → links-out-lts.Need-cast-links-out (calls t) (links-out-at t) links-out.Post
 links-out-cast-links-out t c = search needs
@@ -125,10 +125,10 @@ links-out-links-out-requires-2 t c κs =
 links-out-returns-3 : (t : ℕ) → links-out-lts.Need-returns-3 (calls t) (links-out-at t) links-out.Post
 links-out-returns-3 t c =
     λ hs all is.
-        let g = c .before .before .before .before .before .before .args in
-        let s = turn-of t (c .before .before .before .before .before) in
-        let left = link-less (g .t1) (c .before .before .before .before .before .before .pre .1 .0) hs (g .i - 1) (s .place) (g .ls) _ (g .joined) (c .before .before .before .ends .result) (s .top) (s .not-in) (search needs) is (c .before .before .before .ends .ensures) in
-        stops s (atLinks (g .t1) hs) (g .t1 .hosts) (atLinks-bound (g .t1) hs) (c .if3 .taken) (c .before .links-out2 .ensures hs all left)
+    let g = c .before .before .before .before .before .before .args in
+    let s = turn-of t (c .before .before .before .before .before) in
+    let left = link-less (g .t1) (c .before .before .before .before .before .before .pre .1 .0) hs (g .i - 1) (s .place) (g .ls) _ (g .joined) (c .before .before .before .ends .result) (s .top) (s .not-in) (search needs) is (c .before .before .before .ends .ensures) in
+    stops s (atLinks (g .t1) hs) (g .t1 .hosts) (atLinks-bound (g .t1) hs) (c .if3 .taken) (c .before .links-out2 .ensures hs all left)
 
 links-out-links-out-requires-3 : (t : ℕ) → links-out-lts.Need-links-out-requires-3 (calls t) (links-out-at t) links-out.Post
 links-out-links-out-requires-3 t c κs =
@@ -142,10 +142,10 @@ links-out-larger-requires t c κs = search needs
 links-out-returns-4 : (t : ℕ) → links-out-lts.Need-returns-4 (calls t) (links-out-at t) links-out.Post
 links-out-returns-4 t c =
     λ hs all is.
-        let g = c .before .before .before .before .before .before .before .before .args in
-        let s = turn-of t (c .before .before .before .before .before .before .before) in
-        let left = link-less (g .t1) (c .before .before .before .before .before .before .before .before .pre .1 .0) hs (g .i - 1) (s .place) (g .ls) _ (g .joined) (c .before .before .before .before .before .ends .result) (s .top) (s .not-in) (search needs) is (c .before .before .before .before .before .ends .ensures) in
-        meets s (atLinks (g .t1) hs) (c .larger .ensures) (c .before .before .before .links-out2 .ensures hs all left) (c .before .links-out3 .ensures hs all is)
+    let g = c .before .before .before .before .before .before .before .before .args in
+    let s = turn-of t (c .before .before .before .before .before .before .before) in
+    let left = link-less (g .t1) (c .before .before .before .before .before .before .before .before .pre .1 .0) hs (g .i - 1) (s .place) (g .ls) _ (g .joined) (c .before .before .before .before .before .ends .result) (s .top) (s .not-in) (search needs) is (c .before .before .before .before .before .ends .ensures) in
+    meets s (atLinks (g .t1) hs) (c .larger .ensures) (c .before .before .before .links-out2 .ensures hs all left) (c .before .links-out3 .ensures hs all is)
 
 pub +links-out-spec : {M : Type 1} → statement M
 +links-out-spec = close μ-links-out λ t. links-out-lts.spec (calls t)
