@@ -81,7 +81,7 @@ pub record Upper (i k most set : ℕ) : Type 0 where
   pub none-below : set % 2 ^ i ≡ 0
   pub few : ones set ≤ most
 
--- what is left of a plan that is clear of 1 and 2, and is all that the searches ask of it
+-- what follows where a plan is clear of 1 and 2, and is all that the searches ask of it
 pub record Small (p : Plan) : Type 0 where
   pub some-hosts : 1 ≤ n p
   pub hosts : n p ≤ 8

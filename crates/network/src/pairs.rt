@@ -31,7 +31,9 @@ pub(crate) fn ends(l: Link) -> u64
     requires { ⌜ (l .a < 8) × (l .b < 8) ⌝ }
     ensures { λ r. ⌜ Pairs r (joins l) ⌝ }
 {
-    (1u64 << (8 * (l.a as u32) + (l.b as u32))) | (1u64 << (8 * (l.b as u32) + (l.a as u32)))
+    let a = l.a as u32;
+    let b = l.b as u32;
+    (1u64 << (8 * a + b)) | (1u64 << (8 * b + a))
 }
 
 // The pairs of the first n hosts.

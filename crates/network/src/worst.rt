@@ -20,7 +20,7 @@ pub(crate) fn worst_of(p: Plan) -> u8
     hosts_out(p, joined(p), p.hosts, 0, square(p.hosts))
 }
 
-// The largest over the sets of hosts that are hs from host i on.
+// The largest diameter over the fault sets whose hosts are hs from host i on. A set that is full stands for itself alone.
 fn hosts_out(p: Plan, links: u64, i: u8, hs: u32, survivors: u64) -> u8
     requires { ⌜ Small p ⌝ }
     requires { ⌜ Upper i (n p) (π p) hs ⌝ }
@@ -45,8 +45,8 @@ fn hosts_out(p: Plan, links: u64, i: u8, hs: u32, survivors: u64) -> u8
     larger(d, hosts_out(p, links, h, hs, survivors))
 }
 
-// The largest over the sets of links that are ls from link i on, whatever the faulty hosts hs are that `all` and `joined` are made for. A
-// link that no survivors are joined by is not tried: with it out the survivors and their links are the same, and the set is larger.
+// The same for links: `all` are the pairs that are wanted where hosts hs are out, and `joined` those that a surviving link joins. A link that
+// joins no survivors is not tried: with it out, the survivors and their links are the same and the set is larger.
 fn links_out(p: Plan, all: u64, i: u8, ls: u32, joined: u64) -> u8
     requires { ⌜ Small p ⌝ }
     requires { ⌜ Upper i (m p) (L p) ls ⌝ }
@@ -58,11 +58,11 @@ fn links_out(p: Plan, all: u64, i: u8, ls: u32, joined: u64) -> u8
     let l = i - 1;
     let at = l as usize;
     let link = p.links[at];
-    let pair = ends(link);
-    if joined & pair == 0 {
+    let pairs = ends(link);
+    if joined & pairs == 0 {
         return links_out(p, all, l, ls, joined);
     }
-    let d = links_out(p, all, l, ls + (1u32 << (l as u32)), joined & !pair);
+    let d = links_out(p, all, l, ls + (1u32 << (l as u32)), joined & !pairs);
     if d >= p.hosts {
         return d;
     }

@@ -1,7 +1,7 @@
 -- The invariant: in the set are each host with itself, and what the rows passed have put in. Assumes nothing.
 use mathlib.Core.Path.{sym, ap, ap₂, _∙_}
 use mathlib.Core.Bool.{Bool, _&&_, _||_, or-false}
-use Prim.Native.Nat.{ℕ, _-_, _*_, _/_, _^_, _≤_}
+use Prim.Native.Nat.{ℕ, _-_, _/_, _^_, _≤_}
 use borrow.Author.Needs.{needs}
 use lib.Dec.{eqb}
 use Rattle.lists.specs.Searches.{some}
@@ -40,7 +40,7 @@ shr-column : tie.Need-shr-column Inv-loop μ-loop
 shr-column c = search needs
 
 mul-out : tie.Need-mul-out Inv-loop μ-loop
-mul-out c = record { fits = row-fits (c .before .before .args .near / 2 ^ (8 * c .before .loop .c)) (c .before .before .args .joined / 2 ^ c .before .loop .c) }
+mul-out c = record { fits = row-fits _ (c .before .before .args .joined / 2 ^ c .before .loop .c) }
 
 add-c : tie.Need-add-c Inv-loop μ-loop
 add-c c = search needs
