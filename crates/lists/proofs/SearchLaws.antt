@@ -62,18 +62,16 @@ module _ (f : ℕ → Bool) where
   unfolding each
   each-more n = ap (λ (k : ℕ). each k f) (add-one n)
 
-  pub each-again : (n : ℕ) → f n ≡ true → each n f ≡ true → each (n + 1) f ≡ true
-  each-again n e h = each-more n ∙ ap (λ (t : Bool). t && each n f) e ∙ h
-
   pub each-true : (n : ℕ) → each n f ≡ true → (i : ℕ) → i < n → f i ≡ true
   unfolding each
   each-true zero e i h = absurd (not-suc-le-zero h)
   each-true (suc n) e i h =
       ⊎-elim (λ q. subst (λ (k : ℕ). f k ≡ true) (sym q) (and-left (f n) (each n f) e)) (λ l. each-true n (and-right (f n) (each n f) e) i l) (below-suc h)
 
-  -- one failure below n
-  pub each-at : (n i : ℕ) → i < n → f i ≡ false → each n f ≡ false
-  each-at n i h e = false-unless (each n f) (λ t. true≢false (sym (each-true n t i h) ∙ e))
+  pub each-of : (n : ℕ) → ((i : ℕ) → i < n → f i ≡ true) → each n f ≡ true
+  unfolding each
+  each-of zero h = refl
+  each-of (suc n) h = ap₂ (λ (s t : Bool). s && t) (h n (le-refl (suc n))) (each-of n (λ i l. h i (le-trans l (le-suc n))))
 
   -- a number at which the test fails
   pub each-false : (n : ℕ) → each n f ≡ false → (i : ℕ) × (i < n) × (f i ≡ false)
@@ -95,14 +93,6 @@ max-cases k x y h = go (leb k x) refl
 module _ (f : ℕ → ℕ) where
   -- ---- largest
 
-  pub largest-start : largest 0 f ≡ 0
-  unfolding largest
-  largest-start = refl
-
-  pub largest-more : (n : ℕ) → largest (n + 1) f ≡ max (f n) (largest n f)
-  unfolding largest
-  largest-more n = ap (λ (k : ℕ). largest k f) (add-one n)
-
   pub largest-le : (n k : ℕ) → ((i : ℕ) → i < n → f i ≤ k) → largest n f ≤ k
   unfolding largest
   largest-le zero k h = zero-le
@@ -115,23 +105,12 @@ module _ (f : ℕ → ℕ) where
       ⊎-elim (λ q. subst (λ (k : ℕ). f k ≤ max (f n) (largest n f)) (sym q) (le-max-left (f n) (largest n f)))
       (λ l. le-trans (le-largest n i l) (le-max-right (f n) (largest n f))) (below-suc h)
 
-  -- a turn of a loop that keeps the largest
-  pub largest-turn : {r v d : ℕ} (i : ℕ) → r ≡ max v d → v ≡ f i → d ≡ largest i f → r ≡ largest (i + 1) f
-  largest-turn i er ev ed = er ∙ ap₂ max ev ed ∙ sym (largest-more i)
-
   -- a number at which f is at least k
   pub largest-at : (k n : ℕ) → 0 < k → k ≤ largest n f → (i : ℕ) × (i < n) × (k ≤ f i)
   unfolding largest
   largest-at k zero h l = absurd (not-suc-le-zero (le-trans h l))
   largest-at k (suc n) h l =
       ⊎-elim (λ q. (n, le-refl (suc n), q)) (λ q. let s = largest-at k n h q in (s .0, le-trans (s .1) (le-suc n), s .2)) (max-cases k (f n) (largest n f) l)
-
-  pub largest-mono : (n m : ℕ) → n ≤ m → largest n f ≤ largest m f
-  largest-mono n m h = largest-le n (largest m f) (λ i l. le-largest m i (le-trans l h))
-
-  -- where no value is above k and a value before i is k, a search that stops at i has the largest
-  pub largest-stop : (k : ℕ) → ((i : ℕ) → f i ≤ k) → (i n : ℕ) → i ≤ n → k ≤ largest i f → largest i f ≡ largest n f
-  largest-stop k b i n h l = le-antisymm (largest-mono i n h) (le-trans (largest-le n k (λ j q. b j)) l)
 
 -- ---- least
 

@@ -1,14 +1,13 @@
 -- Sets of pairs: where two agree, and the masks, whose bits are computed one by one. Assumes nothing.
 use mathlib.Core.Path.{_≡_, refl, sym, ap, ap₂, _∙_}
 use mathlib.Core.Bool.{Bool, true, false, _&&_, _||_, and-comm}
-use Prim.Native.Nat.{ℕ, zero, suc, _-_, _*_, _/_, _%_, _^_, _≤_, _<_}
-use native.Mathlib.Nat.{le-refl, le-trans, le-suc}
+use Prim.Native.Nat.{ℕ, _-_, _*_, _/_, _%_, _^_, _≤_, _<_}
 use native.Mathlib.Omega.{arith}
 use borrow.Author.Tests.{leb-true, eqb-true, eqb-false, eq-eqb, ne-eqb}
 use lib.Dec.{eqb, leb, ltb}
 use lib.Bits.{bitAnd, bitOr}
 use Rattle.lists.specs.Searches.{each}
-use Rattle.lists.proofs.SearchLaws.{each-true}
+use Rattle.lists.proofs.SearchLaws.{each-true, each-of}
 use Rattle.lists.proofs.Bools.{and-left, and-right}
 use Rattle.network.specs.Network.{has}
 use Rattle.network.specs.Inside.{pair, Pairs, paired, agree, alike}
@@ -25,11 +24,6 @@ unfolding agree
 same-agree true = refl
 same-agree false = refl
 
-all-each : (k : ℕ) (f : ℕ → Bool) → ((i : ℕ) → i < k → f i ≡ true) → each k f ≡ true
-unfolding each
-all-each zero f h = refl
-all-each (suc k) f h = ap₂ (λ (s t : Bool). s && t) (h k (le-refl (suc k))) (all-each k f (λ i l. h i (le-trans l (le-suc k))))
-
 module _ (s t : ℕ → ℕ → Bool) where
   pub alike-at : alike s t ≡ true → (a b : ℕ) → a < 8 → b < 8 → s a b ≡ t a b
   unfolding alike
@@ -37,7 +31,7 @@ module _ (s t : ℕ → ℕ → Bool) where
 
   pub at-alike : ((a b : ℕ) → a < 8 → b < 8 → s a b ≡ t a b) → alike s t ≡ true
   unfolding alike
-  at-alike e = all-each 8 _ (λ a ha. all-each 8 _ (λ b hb. ap (λ (u : Bool). agree (s a b) u) (sym (e a b ha hb)) ∙ same-agree (s a b)))
+  at-alike e = each-of _ 8 (λ a ha. each-of _ 8 (λ b hb. ap (λ (u : Bool). agree (s a b) u) (sym (e a b ha hb)) ∙ same-agree (s a b)))
 
 -- numbers that have the same pairs are the same
 pub pairs-same : (x y : ℕ) → x < 2 ^ 64 → y < 2 ^ 64 → alike (paired x) (paired y) ≡ true → x ≡ y
