@@ -11,7 +11,7 @@ use Rattle.engine.specs.declared.World.{World}
 use Rattle.engine.specs.Parts.{noStation}
 use Rattle.engine.proofs.Logs.{room-same}
 use Rattle.engine.proofs.Copies.{copiesOf, arrive-grows, world-most}
-use Rattle.engine.proofs.Worlds.{world-room}
+use Rattle.engine.proofs.Lasts.{world-room}
 use Rattle.engine.proofs.Plays.{played, played-quiet}
 use Rattle.engine.proofs.playing.play_one.Statement.{statement}
 use Rattle.engine.proofs.playing.play_one.Tie as tie
@@ -20,7 +20,7 @@ tick-all-requires : tie.Need-tick-all-requires
 tick-all-requires c κs = let a = c .before .before .before .args in
     let p = c .before .before .before .pre in
     let most = p .0 .n-most in
-    (p .0 .n-most, omega arith, λ i h. room-same _ _ _ _ (ap (λ (v : World). getD (v .stations) i noStation) (p .2)) refl (world-room (a .s) (p .0) (a .t) i _ h))
+    (p .0 .n-most, omega arith, λ i h. room-same _ _ _ _ (ap (λ (v : World). getD (v .stations) i noStation) (p .2)) refl (world-room (a .s) (p .0) (a .t) i (omega arith) h))
 
 mul-any-arrives : tie.Need-mul-any-arrives
 mul-any-arrives c = search needs
