@@ -13,11 +13,12 @@ use crate::ticking::tick_all;
 use clock::Tick;
 use schedule::Schedule;
 ghost use mathlib.Core.Path.{_≡_};
-ghost use Prim.Native.Nat.{_+_, _≤_};
+ghost use Prim.Native.Nat.{_*_, _≤_};
 ghost use lib.ListN.{getD};
 ghost use Rattle.lists.specs.Lists.{listed};
+ghost use Rattle.engine.specs.Turns.{inTurn};
 ghost use Rattle.engine.specs.Parts.{noStation};
-ghost use Rattle.engine.specs.Run.{world, outcome, outcomeAt};
+ghost use Rattle.engine.specs.Run.{arriveOne, startOne, outcome, outcomeAt};
 ghost use Rattle.engine.specs.Inside.{Playable};
 
 // The run of a schedule, to its end.
@@ -25,34 +26,49 @@ pub(crate) fn play_all(s: Schedule) -> Outcome
     requires { ⌜ Playable s ⌝ }
     ensures { λ r. ⌜ r ≡ outcome s ⌝ }
 {
-    let mut w = open(s);
+    let opened = open(s);
+    let mut stations = opened.stations;
+    let mut post = opened.post;
+    let mut refusals = opened.refusals;
     let mut t: u64 = 0;
     while t <= s.end.0 {
-        w = play_one(s, t, w);
+        let now = Tick(t);
+        let ticked = tick_all(s, now, stations);
+        stations = ticked;
         t += 1;
+        // A world passed on by value is copied, and at most ticks only the stations change.
+        if any_arrives(post, now, 24 * s.start_count) | any_starts(s, now) {
+            let w = pass_on(
+                s,
+                now,
+                World {
+                    stations,
+                    post,
+                    refusals,
+                },
+            );
+            stations = w.stations;
+            post = w.post;
+            refusals = w.refusals;
+        }
     }
-    outcome_of(s, w)
+    outcome_of(
+        s,
+        World {
+            stations,
+            post,
+            refusals,
+        },
+    )
 }
 
-fn play_one(s: Schedule, t: u64, w: World) -> World
-    requires { ⌜ Playable s × (t ≤ 4096) × (w ≡ world s t) ⌝ }
-    ensures { λ r. ⌜ r ≡ world s (t + 1) ⌝ }
+// Copies arrive, then orders are started.
+fn pass_on(s: Schedule, t: Tick, w: World) -> World
+    requires { ⌜ Playable s × (t .0 ≤ 65_535) × (w .post .copies ≤ 900_000_000) ⌝ }
+    ensures { λ r. ⌜ r ≡ inTurn (s .«start_count») (startOne s t) (inTurn (24 * s .«start_count») (arriveOne s t) w) ⌝ }
 {
-    let before = w.stations;
-    let post = w.post;
-    let refusals = w.refusals;
-    let stations = tick_all(s, Tick(t), before);
-    let ticked = World {
-        stations,
-        post,
-        refusals,
-    };
-    // Most ticks are quiet, and the rest is passed on by value.
-    if !any_arrives(post, Tick(t), 24 * s.start_count) & !any_starts(s, Tick(t)) {
-        return ticked;
-    }
-    let arrived = arrive_all(s, Tick(t), ticked);
-    start_all(s, Tick(t), arrived)
+    let arrived = arrive_all(s, t, w);
+    start_all(s, t, arrived)
 }
 
 fn outcome_of(s: Schedule, w: World) -> Outcome
