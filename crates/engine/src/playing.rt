@@ -38,32 +38,27 @@ pub(crate) fn play_all(s: Schedule) -> Outcome
         t += 1;
         // A world passed on by value is copied, and at most ticks only the stations change.
         if any_arrives(post, now, 24 * s.start_count) | any_starts(s, now) {
-            let w = pass_on(
-                s,
-                now,
-                World {
-                    stations,
-                    post,
-                    refusals,
-                },
-            );
+            let before = World {
+                stations,
+                post,
+                refusals,
+            };
+            let w = arrive_and_start(s, now, before);
             stations = w.stations;
             post = w.post;
             refusals = w.refusals;
         }
     }
-    outcome_of(
-        s,
-        World {
-            stations,
-            post,
-            refusals,
-        },
-    )
+    let w = World {
+        stations,
+        post,
+        refusals,
+    };
+    outcome_of(s, w)
 }
 
 // Copies arrive, then orders are started.
-fn pass_on(s: Schedule, t: Tick, w: World) -> World
+fn arrive_and_start(s: Schedule, t: Tick, w: World) -> World
     requires { ⌜ Playable s × (t .0 ≤ 65_535) × (w .post .copies ≤ 900_000_000) ⌝ }
     ensures { λ r. ⌜ r ≡ inTurn (s .«start_count») (startOne s t) (inTurn (24 * s .«start_count») (arriveOne s t) w) ⌝ }
 {

@@ -47,8 +47,8 @@ any-arrives-requires c κs = let few = c .before .before .before .before .before
 any-starts-requires : tie.Need-any-starts-requires Inv-loop μ-loop
 any-starts-requires c κs = c .before .before .before .before .before .before .before .before .before .before .pre .few
 
-pass-on-requires : tie.Need-pass-on-requires Inv-loop μ-loop
-pass-on-requires c κs = let a = c .before .before .before .before .before .before .before .before .before .before .before .before .args in
+arrive-and-start-requires : tie.Need-arrive-and-start-requires Inv-loop μ-loop
+arrive-and-start-requires c κs = let a = c .before .before .before .before .before .before .before .before .before .before .before .before .args in
     let p = c .before .before .before .before .before .before .before .before .before .before .before .before .pre in
     let s = c .before .before .before .before .before .before .before .loop in
     let end = p .end in
@@ -62,7 +62,7 @@ loop-less c = search needs
 loop-again : tie.Need-loop-again Inv-loop μ-loop
 loop-again c = let a = c .before .before .before .before .before .before .before .before .before .before .before .before .before .before .before .before .args in
     let s = c .before .before .before .before .before .before .before .before .before .before .before .loop in
-    (search needs, played (a .s) (s .t) (worldOf (s .stations) (s .post) (s .refusals)) (s .inv .1) _ (c .before .before .before .before .before .before .before .before .tick-all .ensures) _ (c .before .before .before .pass-on .ensures))
+    (search needs, played (a .s) (s .t) (worldOf (s .stations) (s .post) (s .refusals)) (s .inv .1) _ (c .before .before .before .before .before .before .before .before .tick-all .ensures) _ (c .before .before .before .arrive-and-start .ensures))
 
 loop-less-2 : tie.Need-loop-less-2 Inv-loop μ-loop
 loop-less-2 c = search needs
@@ -96,7 +96,7 @@ play-all-spec =
     mul-any-arrives
     any-arrives-requires
     any-starts-requires
-    pass-on-requires
+    arrive-and-start-requires
     loop-less
     loop-again
     loop-less-2

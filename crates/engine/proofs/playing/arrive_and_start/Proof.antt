@@ -6,8 +6,8 @@ use native.Mathlib.Omega.{arith}
 use Rattle.engine.specs.Turns.{inTurn}
 use Rattle.engine.specs.Run.{startOne}
 use Rattle.engine.proofs.Copies.{copiesOf, arrive-grows}
-use Rattle.engine.proofs.playing.pass_on.Statement.{statement}
-use Rattle.engine.proofs.playing.pass_on.Tie as tie
+use Rattle.engine.proofs.playing.arrive_and_start.Statement.{statement}
+use Rattle.engine.proofs.playing.arrive_and_start.Tie as tie
 
 arrive-all-requires : tie.Need-arrive-all-requires
 arrive-all-requires c κs = search needs
@@ -23,8 +23,8 @@ start-all-requires c κs = let a = c .before .args in
 returns : tie.Need-returns
 returns c = let a = c .before .before .args in c .start-all .ensures ∙ ap (inTurn (a .s .«start_count») (startOne (a .s) (a .t))) (c .before .arrive-all .ensures)
 
-pub pass-on-spec : {M : Type 1} → statement M
-pass-on-spec =
+pub arrive-and-start-spec : {M : Type 1} → statement M
+arrive-and-start-spec =
     tie.close
     (tie.spec
     arrive-all-requires
