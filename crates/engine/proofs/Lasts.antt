@@ -1,5 +1,5 @@
 -- No host's last reading is past what its clock shows; so it takes each tick of a run, and its log has room for what is due. Assumes nothing.
-use mathlib.Core.Path.{_≡_, refl}
+use mathlib.Core.Path.{_≡_, refl, ap}
 use mathlib.Core.Bool.{Bool, true, false, cond}
 use mathlib.Core.List.{List, [], _∷_}
 use Prim.Native.Nat.{ℕ, zero, suc, _+_, _*_, _≤_, _<_}
@@ -32,6 +32,7 @@ use Rattle.engine.specs.Parts.{logOf, noStation, clock, start, order, st
 use Rattle.engine.specs.Run.{tickOne, tickAll, hand, arrives, arriveOne, tell, startOne, arrived, play, opening, world}
 use Rattle.engine.specs.Inside.{Playable, Room}
 use Rattle.engine.proofs.Turns.{keeps}
+use Rattle.engine.proofs.Logs.{room-same, room-before}
 use Rattle.engine.proofs.Kept.{Kept, room-kept}
 use Rattle.engine.proofs.Worlds.{getD-past, world-good}
 
@@ -103,7 +104,7 @@ module _ (s : Schedule) where
   world-behind : (t : ℕ) → Behind s (record { 0 = t }) (world s t .stations)
   world-behind t = keeps (play s) (λ i v. Behind s (record { 0 = i }) (v .stations)) t (opening s) open-behind (λ i v h g. play-behind i v g)
 
-pub world-room : (s : Schedule) → Playable s → (t p : ℕ) → t ≤ 65_535 → p < n (s .plan) → Room (getD (world s t .stations) p noStation) (clock s (record { 0 = t }) p)
+world-room : (s : Schedule) → Playable s → (t p : ℕ) → t ≤ 65_535 → p < n (s .plan) → Room (getD (world s t .stations) p noStation) (clock s (record { 0 = t }) p)
 world-room s z t p soon h =
     let a : Station = getD (world s t .stations) p noStation in
     let u : Reading = clock s (record { 0 = t }) p in
@@ -118,3 +119,10 @@ world-room s z t p soon h =
       log = k .set-out;
       room = room-kept s p a u k (z .few);
     }
+
+-- within a tick, of a host whose turn has not come
+pub turn-room : (s : Schedule) → Playable s → (t p : ℕ) (w : World) (all : List Station) (u : Reading) → t ≤ 65_535 → p < n (s .plan) → w ≡ world s t
+    → all ≡ inTurn p (tickOne s (record { 0 = t })) (w .stations) → u ≡ clock s (record { 0 = t }) p → Room (getD all p noStation) u
+turn-room s z t p w all u soon h now e f =
+    let same : getD (w .stations) p noStation ≡ getD (world s t .stations) p noStation = ap (λ (v : World). getD (v .stations) p noStation) now in
+    room-before s (record { 0 = t }) p (w .stations) all u e f (room-same _ _ _ _ same refl (world-room s z t p soon h))

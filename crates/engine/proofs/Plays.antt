@@ -10,17 +10,13 @@ use Rattle.clock.specs.declared.Tick.{Tick}
 use Rattle.network.specs.Network.{n}
 use Rattle.schedule.specs.declared.Schedule.{Schedule}
 use Rattle.engine.specs.declared.Outcome.{Outcome}
-use Rattle.engine.specs.declared.Post.{Post}
 use Rattle.engine.specs.declared.Station.{Station}
 use Rattle.engine.specs.declared.World.{World}
 use Rattle.engine.specs.Turns.{inTurn}
 use Rattle.engine.specs.Parts.{start, receiver}
 use Rattle.engine.specs.Run.{tickOne, tickAll, hand, arrives, arriveOne, tell, startOne, play, opening, world, outcome, outcomeAt}
+use Rattle.engine.specs.Inside.{worldOf}
 use Rattle.engine.proofs.Turns.{turn, quiet}
-
--- a run's parts as a world
-abbrev pub worldOf : List Station → Post → List ℕ → World
-worldOf l post refusals = record { stations = l; post = post; refusals = refusals }
 
 module _ (s : Schedule) (t : ℕ) (w : World) (now : w ≡ world s t) (l : List Station) (ticks : l ≡ inTurn (n (s .plan)) (tickOne s (record { 0 = t })) (w .stations)) where
   abbrev i : Tick

@@ -1,6 +1,6 @@
 -- Notions that only contracts cite beside the definitions. Assumes nothing.
 use mathlib.Core.Path.{_≡_}
-use mathlib.Core.List.{[]}
+use mathlib.Core.List.{List, []}
 use Prim.Native.Nat.{ℕ, _+_, _≤_, _<_}
 use lib.ListN.{length, getD}
 use Rattle.network.specs.Network.{n, m, link, planRefusal}
@@ -10,7 +10,9 @@ use Rattle.host.specs.Tick.{dueOf, tickRefusal}
 use Rattle.host.specs.declared.Host.{Host}
 use Rattle.schedule.specs.declared.Schedule.{Schedule}
 use Rattle.engine.specs.declared.Outcome.{Outcome}
+use Rattle.engine.specs.declared.Post.{Post}
 use Rattle.engine.specs.declared.Station.{Station}
+use Rattle.engine.specs.declared.World.{World}
 use Rattle.engine.specs.Parts.{noLog, listOf, logOf, start}
 
 -- an outcome's numbers stay within its places
@@ -31,6 +33,10 @@ pub record Playable (s : Schedule) : Type 0 where
   pub hosts : (k : ℕ) → start s k .host < 8
   pub ticks : (k : ℕ) → start s k .tick .0 ≤ 4096
   pub end : s .end .0 ≤ 4096
+
+-- a run's parts as a world
+abbrev pub worldOf : List Station → Post → List ℕ → World
+worldOf stations post refusals = record { stations = stations; post = post; refusals = refusals }
 
 -- a station whose host is another's, under a number of its own
 abbrev pub freshStation : Host → ℕ → Station

@@ -5,6 +5,7 @@ use Prim.Native.Nat.{_*_}
 use native.Mathlib.Omega.{arith}
 use Rattle.engine.specs.Turns.{inTurn}
 use Rattle.engine.specs.Run.{startOne}
+use Rattle.engine.specs.Inside.{worldOf}
 use Rattle.engine.proofs.Copies.{copiesOf, arrive-grows}
 use Rattle.engine.proofs.playing.arrive_and_start.Statement.{statement}
 use Rattle.engine.proofs.playing.arrive_and_start.Tie as tie
@@ -17,7 +18,7 @@ start-all-requires c κs = let a = c .before .args in
     let p = c .before .pre in
     let few = p .0 .few in
     let sent = ap copiesOf (c .arrive-all .ensures) in
-    let more = arrive-grows (a .s) (p .0) (a .t) (24 * a .s .«start_count») (a .w) in
+    let more = arrive-grows (a .s) (p .0) (a .t) (24 * a .s .«start_count») (worldOf (a .stations) (a .post) (a .refusals)) in
     (p .0, p .1, omega arith)
 
 returns : tie.Need-returns
