@@ -25,7 +25,6 @@ use Rattle.engine.specs.declared.Delivery.{Delivery}
 use Rattle.engine.specs.declared.Log.{Log}
 use Rattle.engine.specs.declared.Station.{Station}
 use Rattle.engine.specs.Parts.{listOf, logOf, order}
-use Rattle.engine.specs.Run.{delivered}
 
 -- the orders that a station has delivered, and these with those that it holds
 abbrev pub gone : Station → List Held

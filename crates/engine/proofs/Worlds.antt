@@ -10,7 +10,6 @@ use lib.ListN.{length, getD, set, length-set}
 use lib.Seq.{getD-set-same, getD-set-other}
 use Rattle.lists.specs.Lists.{listed}
 use Rattle.lists.proofs.Listing.{length-listed, getD-listed}
-use Rattle.clock.specs.declared.Reading.{Reading}
 use Rattle.clock.specs.declared.Tick.{Tick}
 use Rattle.network.specs.Network.{n, link}
 use Rattle.host.specs.Make.{fresh}

@@ -34,7 +34,8 @@ pub(crate) fn play_all(s: Schedule) -> Outcome
     outcome_of(s, w)
 }
 
-// The world after the last tick. A call copies what it is given, so the hosts tick here, in place, and a world is made only where a copy arrives or an order is started.
+// The world after the last tick. A call copies what it takes by value: so the hosts tick here, in place, and a world is made only where a copy
+// arrives or an order is started.
 fn world_at_end(s: Schedule) -> World
     requires { ⌜ Playable s ⌝ }
     ensures { λ r. ⌜ r ≡ world s (s .end .0 + 1) ⌝ }
