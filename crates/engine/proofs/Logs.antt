@@ -186,7 +186,7 @@ module _ (p : Station) (u : Reading) (room : Room p u) where
 pub room-same : (p q : Station) (u v : Reading) → q ≡ p → v ≡ u → Room p u → Room q v
 room-same p q u v e f r = rw (e, f) r
 
-untouched : (s : Schedule) (t : Tick) (i p : ℕ) (l : List Station) → i ≤ p → getD (inTurn i (tickOne s t) l) p noStation ≡ getD l p noStation
+pub untouched : (s : Schedule) (t : Tick) (i p : ℕ) (l : List Station) → i ≤ p → getD (inTurn i (tickOne s t) l) p noStation ≡ getD l p noStation
 unfolding inTurn
 untouched s t zero p l h = refl
 untouched s t (suc i) p l h = getD-set-other (inTurn i (tickOne s t) l) i p _ noStation (λ e. let f : ⊥ = omega (arith, e) in f) ∙ untouched s t i p l (omega arith)
