@@ -25,8 +25,6 @@ use Rattle.engine.specs.declared.Delivery.{Delivery}
 use Rattle.engine.specs.declared.Log.{Log}
 use Rattle.engine.specs.declared.Station.{Station}
 use Rattle.engine.specs.Parts.{listOf, logOf, order}
-use Rattle.engine.specs.Run.{delivered}
-use Rattle.engine.specs.Inside.{Room}
 
 -- the orders that a station has delivered, and these with those that it holds
 abbrev pub gone : Station → List Held
@@ -81,17 +79,17 @@ module _ (s : Schedule) where
       let same : length l ≡ length (ks .0) = ap length (sym (ks .1)) ∙ length-map (ks .0) (order s) in
       omega arith
 
-  pub room-kept : (p : ℕ) (a : Station) (u : Reading) → Kept s p a → s .«start_count» ≤ 16 → Room a u
+  pub room-kept : (p : ℕ) (a : Station) (u : Reading) → Kept s p a → s .«start_count» ≤ 16 → a .log .count + length (dueOf (a .host) (u .0)) ≤ 16
   room-kept p a u k most =
       let all : length (taken a) ≤ s .«start_count» = few (taken a) (k .rise) (k .named) in
       let both : length (taken a) ≡ length (gone a) + length (heldOf (a .host)) = length-append (gone a) (heldOf (a .host)) in
       let out : length (gone a) ≡ length (listOf (a .log)) = length-map (listOf (a .log)) (λ (d : Delivery). d .what) in
       let counted : a .log .count ≡ length (listOf (a .log)) = ap (λ (l : Log). l .count) (k .set-out) in
       let split : length (dueOf (a .host) (u .0)) + length (waitingOf (a .host) (u .0)) ≡ length (heldOf (a .host)) = keep-both _ (heldOf (a .host)) in
-      record { log = k .set-out; room = omega arith }
+      omega arith
 
   pub count-kept : (p : ℕ) (a : Station) → Kept s p a → s .«start_count» ≤ 16 → a .log .count ≤ 16
-  count-kept p a k most = let r = room-kept p a (a .host .last) k most .room in omega arith
+  count-kept p a k most = let r = room-kept p a (a .host .last) k most in omega arith
 
   -- ---- one order more
 

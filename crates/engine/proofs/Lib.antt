@@ -8,6 +8,8 @@ pub mod Hands
 pub mod Kept
 pub mod Steps
 pub mod Worlds
+pub mod Lasts
+pub mod Idle
 pub mod Plays
 pub mod Runs
 pub mod Posted

@@ -36,7 +36,7 @@ use Rattle.engine.specs.declared.Delivery.{Delivery}
 use Rattle.engine.specs.declared.Log.{Log}
 use Rattle.engine.specs.declared.Station.{Station}
 use Rattle.engine.specs.Turns.{inTurn}
-use Rattle.engine.specs.Parts.{noDelivery, listOf, logOf, noStation}
+use Rattle.engine.specs.Parts.{noDelivery, listOf, logOf, noStation, clock}
 use Rattle.engine.specs.Run.{delivered, delivery, ticked, tickOne}
 use Rattle.engine.specs.Inside.{Room}
 
@@ -190,3 +190,8 @@ pub untouched : (s : Schedule) (t : Tick) (i p : ℕ) (l : List Station) → i �
 unfolding inTurn
 untouched s t zero p l h = refl
 untouched s t (suc i) p l h = getD-set-other (inTurn i (tickOne s t) l) i p _ noStation (λ e. let f : ⊥ = omega (arith, e) in f) ∙ untouched s t i p l (omega arith)
+
+pub room-before : (s : Schedule) (t : Tick) (p : ℕ) (l all : List Station) (u : Reading) → all ≡ inTurn p (tickOne s t) l → u ≡ clock s t p
+    → Room (getD l p noStation) (clock s t p) → Room (getD all p noStation) u
+room-before s t p l all u e f r =
+    room-same _ _ _ _ (ap (λ (k : List Station). getD k p noStation) e ∙ untouched s t p p l (omega arith)) f r

@@ -30,6 +30,7 @@ playable s w =
     record {
       planned = w .clear;
       ends = any-ends s w;
+      offsets = λ p h. let low = w .offset-low p h in let most = r .skew-high in omega arith;
       n-some = let two = r .hosts-low in omega arith;
       n-most = r .hosts-high;
       m-most = r .links-high;

@@ -1,4 +1,4 @@
--- Every station is kept at every moment of a run; so each log has room for what is due. Assumes nothing.
+-- Every station is kept at every moment of a run; so no log has more than its places. Assumes nothing.
 use mathlib.Core.Path.{_≡_, refl, sym, ap, _∙_}
 use mathlib.Core.Bool.{Bool, true, false, cond}
 use mathlib.Core.List.{List, [], _∷_}
@@ -10,7 +10,6 @@ use lib.ListN.{length, getD, set, length-set}
 use lib.Seq.{getD-set-same, getD-set-other}
 use Rattle.lists.specs.Lists.{listed}
 use Rattle.lists.proofs.Listing.{length-listed, getD-listed}
-use Rattle.clock.specs.declared.Reading.{Reading}
 use Rattle.clock.specs.declared.Tick.{Tick}
 use Rattle.network.specs.Network.{n, link}
 use Rattle.host.specs.Make.{fresh}
@@ -24,12 +23,12 @@ use Rattle.engine.specs.declared.World.{World}
 use Rattle.engine.specs.Turns.{inTurn}
 use Rattle.engine.specs.Parts.{logOf, noStation, clock, start, order, startOf, linkOf, receiver}
 use Rattle.engine.specs.Run.{ticked, tickOne, tickAll, station, hand, arrives, arriveOne, tell, startOne, arrived, play, opening, world}
-use Rattle.engine.specs.Inside.{Playable, Room}
+use Rattle.engine.specs.Inside.{Playable}
 use Rattle.engine.proofs.Turns.{keeps}
-use Rattle.engine.proofs.Kept.{Kept, room-kept, count-kept}
+use Rattle.engine.proofs.Kept.{Kept, count-kept}
 use Rattle.engine.proofs.Steps.{hand-keeps, tell-keeps, tick-keeps}
 
-getD-past : {A : Type 0} (l : List A) (i : ℕ) (d : A) → length l ≤ i → getD l i d ≡ d
+pub getD-past : {A : Type 0} (l : List A) (i : ℕ) (d : A) → length l ≤ i → getD l i d ≡ d
 getD-past [] i d h = refl
 getD-past (x ∷ l) zero d h = let f : ⊥ = omega arith in absurd f
 getD-past (x ∷ l) (suc i) d h = getD-past l i d (omega arith)
@@ -146,9 +145,6 @@ module _ (s : Schedule) (z : Playable s) where
 
   pub world-good : (t : ℕ) → Good s (world s t .stations)
   world-good t = keeps (play s) (λ i v. Good s (v .stations)) t (opening s) open-good (λ i v h q. play-good i v q)
-
-  pub world-room : (t p : ℕ) (u : Reading) → p < n (s .plan) → Room (getD (world s t .stations) p noStation) u
-  world-room t p u h = room-kept s p (getD (world s t .stations) p noStation) u (world-good t .hosts p h) (z .few)
 
   pub world-places : (t p : ℕ) → getD (world s t .stations) p noStation .log .count ≤ 16
   world-places t p = go (ltb p (n (s .plan))) refl

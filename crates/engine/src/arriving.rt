@@ -25,13 +25,17 @@ pub(crate) fn arrive_all(s: Schedule, t: Tick, world: World) -> World
     ensures { λ r. ⌜ r ≡ inTurn (24 * s .«start_count») (arriveOne s t) world ⌝ }
 {
     let mut w = world;
+    let mut post = w.post;
+    // An index through a struct copies the struct.
+    let mut arrivals = post.arrivals;
     let mut c: usize = 0;
     while c < 24 * s.start_count {
         let at = c;
-        let post = w.post;
         c += 1;
-        if is_arriving(post, t, at) {
+        if is_now(arrivals[at], t) {
             w = arrive(s, t, at, w);
+            post = w.post;
+            arrivals = post.arrivals;
         }
     }
     w
@@ -42,11 +46,11 @@ pub(crate) fn any_arrives(post: Post, t: Tick, n: usize) -> bool
     requires { ⌜ n ≤ 384 ⌝ }
     ensures { λ r. ⌜ r ≡ some n (λ c. ltb 0 (t .0) && eqb (getD (post .arrivals) c noTick .0) (t .0)) ⌝ }
 {
+    let arrivals = post.arrivals;
     let mut found = false;
     let mut c: usize = 0;
     while c < n {
-        let arrival = post.arrivals[c];
-        found = ((0 < t.0) & (arrival.0 == t.0)) | found;
+        found = is_now(arrivals[c], t) | found;
         c += 1;
     }
     found
@@ -103,11 +107,9 @@ pub(crate) fn links_of(answer: SendAnswer) -> u16
     }
 }
 
-// Whether the copy at place c arrives at this tick.
-fn is_arriving(post: Post, t: Tick, c: usize) -> bool
-    requires { ⌜ c < 384 ⌝ }
-    ensures { λ r. ⌜ r ≡ (ltb 0 (t .0) && eqb (getD (post .arrivals) c noTick .0) (t .0)) ⌝ }
+// Whether an arrival is at this tick, which is not 0.
+fn is_now(arrival: Tick, t: Tick) -> bool
+    ensures { λ r. ⌜ r ≡ (ltb 0 (t .0) && eqb (arrival .0) (t .0)) ⌝ }
 {
-    let arrival = post.arrivals[c];
     (0 < t.0) & (arrival.0 == t.0)
 }

@@ -16,7 +16,9 @@ pub(crate) fn clock_of(s: Schedule, t: Tick, p: u8) -> Reading
     requires { ⌜ (t .0 ≤ 65_535) × (p < 8) ⌝ }
     ensures { λ r. ⌜ r ≡ clock s t p ⌝ }
 {
-    reading_of(t, s.offsets[p as usize])
+    // An index through a struct copies the struct.
+    let offsets = s.offsets;
+    reading_of(t, offsets[p as usize])
 }
 
 // No clock passes the largest reading within a run.

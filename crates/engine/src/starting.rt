@@ -41,10 +41,11 @@ pub(crate) fn any_starts(s: Schedule, t: Tick) -> bool
     requires { ⌜ s .«start_count» ≤ 16 ⌝ }
     ensures { λ r. ⌜ r ≡ some (s .«start_count») (λ k. eqb (start s k .tick .0) (t .0)) ⌝ }
 {
+    let starts = s.starts;
     let mut found = false;
     let mut k: usize = 0;
     while k < s.start_count {
-        found = is_now(s.starts[k], t) | found;
+        found = is_now(starts[k], t) | found;
         k += 1;
     }
     found

@@ -1,38 +1,44 @@
-// All hosts tick, and what they deliver is kept.
+// A host ticks, and what it delivers is kept.
 use crate::Delivery;
 use crate::Log;
 use crate::Station;
-use crate::clocks::clock_of;
 use clock::Reading;
-use clock::Tick;
+use clock::reached;
 use host::Held;
 use host::TickAnswer;
-use schedule::Schedule;
 ghost use mathlib.Core.Path.{_≡_};
+ghost use mathlib.Core.Bool.{not, _||_};
 ghost use mathlib.Core.List.{_++_, map};
-ghost use Prim.Native.Nat.{ℕ, _+_, _≤_, _<_};
+ghost use Prim.Native.Nat.{_+_, _≤_};
+ghost use lib.Dec.{eqb};
 ghost use lib.ListN.{take, getD};
-ghost use Rattle.network.specs.Network.{n};
-ghost use Rattle.engine.specs.Turns.{inTurn};
-ghost use Rattle.engine.specs.Parts.{noStation, clock, listOf, logOf};
-ghost use Rattle.engine.specs.Run.{delivery, ticked, tickOne};
-ghost use Rattle.engine.specs.Inside.{Room};
+ghost use Rattle.host.specs.State.{noHeld};
+ghost use Rattle.host.specs.Tick.{due};
+ghost use Rattle.engine.specs.Parts.{listOf, logOf};
+ghost use Rattle.engine.specs.Run.{delivery, ticked};
+ghost use Rattle.engine.specs.Inside.{Room, laterAt};
 
-pub(crate) fn tick_all(s: Schedule, t: Tick, stations: [Station; 8]) -> [Station; 8]
-    requires { ⌜ (n (s .plan) ≤ 8) × (t .0 ≤ 65_535) × ((p : ℕ) → p < n (s .plan) → Room (getD stations p noStation) (clock s t p)) ⌝ }
-    ensures { λ r. ⌜ r ≡ inTurn (n (s .plan)) (tickOne s t) stations ⌝ }
+// The station at a later reading, all else as it was.
+pub(crate) fn at_later(station: Station, u: Reading) -> Station
+    ensures { λ r. ⌜ r ≡ laterAt u station ⌝ }
 {
-    let mut all = stations;
-    let mut p: u8 = 0;
-    while p < s.plan.hosts {
-        let at = p as usize;
-        all[at] = tick_one(all[at], clock_of(s, t, p));
-        p += 1;
-    }
-    all
+    let mut host = station.host;
+    let log = station.log;
+    host.last = u;
+    Station { host, log }
 }
 
-fn tick_one(station: Station, u: Reading) -> Station
+// Whether nothing is due, in a history that rises by stamp.
+pub(crate) fn is_idle(station: Station, u: Reading) -> bool
+    ensures { λ r. ⌜ r ≡ (eqb (station .host .held) 0 || not (due (station .host .bound) (u .0) (getD (station .host .history) 0 noHeld))) ⌝ }
+{
+    let host = station.host;
+    let history = host.history;
+    let first = history[0];
+    (host.held == 0) | !reached(first.stamp, host.bound, u)
+}
+
+pub(crate) fn tick_one(station: Station, u: Reading) -> Station
     requires { ⌜ Room station u ⌝ }
     ensures { λ r. ⌜ r ≡ ticked u station ⌝ }
 {

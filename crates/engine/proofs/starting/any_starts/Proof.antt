@@ -4,27 +4,29 @@ use mathlib.Core.Path.{_≡_, sym, ap, _∙_}
 use Prim.Native.Nat.{ℕ, _-_, _≤_}
 use native.Mathlib.Omega.{arith}
 use lib.Dec.{eqb}
+use lib.ListN.{getD}
 use mathlib.Core.Bool.{Bool, _||_}
 use Rattle.lists.specs.Searches.{some}
 use Rattle.lists.proofs.SearchLaws.{some-start, some-more}
+use Rattle.schedule.specs.Schedule.{noStart}
 use Rattle.engine.specs.Parts.{start}
 use Rattle.engine.proofs.starting.any_starts.Statement.{statement}
 use Rattle.engine.proofs.starting.any_starts.Tie as tie
 
 abbrev Inv-loop : tie.InvT-loop
-Inv-loop t s found₀ k₀ found k = (k ≤ s .«start_count») × (found ≡ some k (λ i. eqb (start (s) i .tick .0) (t .0)))
+Inv-loop s t starts found₀ k₀ found k = (k ≤ s .«start_count») × (found ≡ some k (λ i. eqb (getD starts i noStart .tick .0) (t .0)))
 
 abbrev μ-loop : tie.MeasureT-loop
-μ-loop t s found₀ k₀ found k = s .«start_count» - k
+μ-loop s t starts found₀ k₀ found k = s .«start_count» - k
 
 loop-holds : tie.Need-loop-holds Inv-loop μ-loop
-loop-holds c = (search needs, sym (some-start (λ i. eqb (start (c .args .t1) i .tick .0) (c .args .t .0))))
+loop-holds c = let a = c .before .args in (search needs, sym (some-start (λ i. eqb (start (a .s) i .tick .0) (a .t .0))))
 
 mul-is-now : tie.Need-mul-is-now Inv-loop μ-loop
 mul-is-now c = search needs
 
-element-copy-out-is-now : tie.Need-element-copy-out-is-now Inv-loop μ-loop
-element-copy-out-is-now c = search needs
+array-copy-out-is-now : tie.Need-array-copy-out-is-now Inv-loop μ-loop
+array-copy-out-is-now c = search needs
 
 is-now-requires : tie.Need-is-now-requires Inv-loop μ-loop
 is-now-requires c κs = search needs
@@ -36,16 +38,16 @@ loop-less : tie.Need-loop-less Inv-loop μ-loop
 loop-less c = search needs
 
 loop-again : tie.Need-loop-again Inv-loop μ-loop
-loop-again c = let a = c .before .before .before .before .args in
-    let s = c .before .before .before .loop in
-    let f : ℕ → Bool = λ i. eqb (start (a .t1) i .tick .0) (a .t .0) in
+loop-again c = let a = c .before .before .before .before .before .before .args in
+    let s = c .before .before .before .before .loop in
+    let f : ℕ → Bool = λ i. eqb (start (a .s) i .tick .0) (a .t .0) in
     (search needs, ap (λ (b : Bool). b || s .found) (c .is-now .ensures) ∙ ap (λ (b : Bool). f (s .k) || b) (s .inv .1) ∙ sym (some-more f (s .k)))
 
 returns : tie.Need-returns Inv-loop μ-loop
-returns c = let a = c .before .before .args in
-    let s = c .before .loop in
-    let f : ℕ → Bool = λ i. eqb (start (a .t1) i .tick .0) (a .t .0) in
-    let end : s .k ≡ a .t1 .«start_count» = omega arith in
+returns c = let a = c .before .before .before .before .args in
+    let s = c .before .before .loop in
+    let f : ℕ → Bool = λ i. eqb (start (a .s) i .tick .0) (a .t .0) in
+    let end : s .k ≡ a .s .«start_count» = omega arith in
     s .inv .1 ∙ ap (λ (k : ℕ). some k f) end
 
 pub any-starts-spec : {M : Type 1} → statement M
@@ -56,7 +58,7 @@ any-starts-spec =
     μ-loop
     loop-holds
     mul-is-now
-    element-copy-out-is-now
+    array-copy-out-is-now
     is-now-requires
     add-k
     loop-less
