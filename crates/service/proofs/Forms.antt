@@ -1,47 +1,57 @@
--- Numbers that are an order's, or a place's, fit a byte; zeros stand for an unused place. Assumes nothing.
-use mathlib.Core.Path.{_≡_, refl, sym, ap, ap₂, _∙_, subst}
-use mathlib.Core.Bool.{Bool, true, false, cond, _&&_}
-use Prim.Native.Nat.{ℕ, _≤_, _<_, _^_}
+-- Numbers that are an order's, and what the order of any three numbers tells of them. Assumes nothing.
+use mathlib.Core.Path.{_≡_, refl, sym, subst}
+use mathlib.Core.Bool.{Bool, true, false, cond, _&&_, and-false, true≢false}
+use Prim.Native.Nat.{ℕ, _≤_, _<_}
 use native.Mathlib.Omega.{arith}
-use borrow.Author.Tests.{leb-true, eqb-true}
+use borrow.Author.Tests.{leb-true, eqb-true, ne-eqb}
 use lib.Dec.{leb, eqb}
 use Rattle.lists.proofs.Bools.{and-left, and-right}
-use Rattle.orders.specs.Orders.{isKind, isShare}
-use Rattle.host.specs.State.{noHeld}
-use Rattle.service.specs.Memory.{formed, heldFrom, heldFits, placeFits}
-use Rattle.service.specs.Inside.{isZero}
-use Rattle.service.specs.declared.HeldMemory.{HeldMemory}
-use Rattle.service.specs.declared.PlaceMemory.{PlaceMemory}
+use Rattle.orders.specs.declared.Order.the-variants.{Publish}
+use Rattle.orders.specs.Orders.{isKind, isShare, shareFits, sameOrder, orderOf}
+use Rattle.orders.proofs.Laws.{by-kind}
+use Rattle.service.specs.Memory.{formed, zeros, orderFrom}
+
+-- a kind and a share that are some order's: a publish with its share, or one of the others
+pub by-form : (kind share : ℕ) → formed kind share ≡ true → (P : ℕ → ℕ → Type 0) → ((s : ℕ) → isShare s ≡ true → P 1 s) → P 2 0 → P 3 0 → P 4 0 → P kind share
+by-form kind share f P p1 p2 p3 p4 = go (eqb kind 1) refl f
+  where
+    go : (b : Bool) → eqb kind 1 ≡ b → cond b (isShare share) (isKind kind && eqb share 0) ≡ true → P kind share
+    go true x e = subst (λ (k : ℕ). P k share) (sym (eqb-true kind 1 x)) (p1 share e)
+    go false x e =
+        let none : share ≡ 0 = eqb-true share 0 (and-right (isKind kind) (eqb share 0) e) in
+        subst (λ (s : ℕ). P kind s) (sym none)
+        (by-kind kind (and-left (isKind kind) (eqb share 0) e) (λ k. eqb k 1 ≡ false → P k 0) (λ y. absurd (true≢false y)) (λ _. p2) (λ _. p3) (λ _. p4) x)
 
 pub share-byte : (kind share : ℕ) → formed kind share ≡ true → share < 256
-share-byte kind share = go (eqb kind 1)
-  where
-    go : (b : Bool) → cond b (isShare share) (isKind kind && eqb share 0) ≡ true → share < 256
-    go true e = let h : share ≤ 100 = leb-true _ _ (and-right (leb 1 share) (leb share 100) e) in omega arith
-    go false e = let z : share ≡ 0 = eqb-true _ _ (and-right (isKind kind) (eqb share 0) e) in omega arith
+share-byte kind share f =
+    by-form kind share f (λ k s. s < 256) (λ s e. let h : s ≤ 100 = leb-true _ _ (and-right (leb 1 s) (leb s 100) e) in omega arith) (omega arith) (omega arith) (omega arith)
 
-pub place-byte : (p : PlaceMemory) → placeFits p ≡ true → p .share < 256
-place-byte p = go (eqb (p .stand) 0)
-  where
-    go : (b : Bool) → cond b (eqb (p .share) 0) (leb (p .stand) 2 && leb (p .share) 100) ≡ true → p .share < 256
-    go true e = let z : p .share ≡ 0 = eqb-true _ _ e in omega arith
-    go false e = let h : p .share ≤ 100 = leb-true _ _ (and-right (leb (p .stand) 2) (leb (p .share) 100) e) in omega arith
+module _ (kind image share : ℕ) where
+  -- its share is in range just where they are an order's
+  pub from-fits : shareFits (orderFrom kind image share) ≡ formed kind share
+  from-fits = go (formed kind share) refl
+    where
+      none : (z : Bool) → shareFits (Publish 0 (cond z 0 255)) ≡ false
+      none true = refl
+      none false = refl
 
--- ---- zeros stand for an unused place
+      go : (b : Bool) → formed kind share ≡ b → shareFits (cond b (orderOf kind image share) (Publish 0 (cond (zeros kind image share) 0 255))) ≡ b
+      go true f = by-form kind share f (λ k s. shareFits (orderOf k image s) ≡ true) (λ s e. e) refl refl refl
+      go false f = none (zeros kind image share)
 
-only-zero : (e : HeldMemory) → isZero e ≡ true → e ≡ record { stamp = record { 0 = 0 }; image = 0; source = 0; kind = 0; share = 0 }
-only-zero e z =
-    let z1 = and-left (eqb (e .stamp .0) 0 && eqb (e .image) 0 && eqb (e .source) 0 && eqb (e .kind) 0) (eqb (e .share) 0) z in
-    let z2 = and-left (eqb (e .stamp .0) 0 && eqb (e .image) 0 && eqb (e .source) 0) (eqb (e .kind) 0) z1 in
-    let z3 = and-left (eqb (e .stamp .0) 0 && eqb (e .image) 0) (eqb (e .source) 0) z2 in
-    let share : e .share ≡ 0 = eqb-true _ _ (and-right (eqb (e .stamp .0) 0 && eqb (e .image) 0 && eqb (e .source) 0 && eqb (e .kind) 0) (eqb (e .share) 0) z) in
-    let kind : e .kind ≡ 0 = eqb-true _ _ (and-right (eqb (e .stamp .0) 0 && eqb (e .image) 0 && eqb (e .source) 0) (eqb (e .kind) 0) z1) in
-    let source : e .source ≡ 0 = eqb-true _ _ (and-right (eqb (e .stamp .0) 0 && eqb (e .image) 0) (eqb (e .source) 0) z2) in
-    let image : e .image ≡ 0 = eqb-true _ _ (and-right (eqb (e .stamp .0) 0) (eqb (e .image) 0) z3) in
-    let stamp : e .stamp .0 ≡ 0 = eqb-true _ _ (and-left (eqb (e .stamp .0) 0) (eqb (e .image) 0) z3) in
-    ap₂ (λ (t i : ℕ). record { stamp = record { 0 = t }; image = i; source = e .source; kind = e .kind; share = e .share }) stamp image
-    ∙ ap₂ (λ (s k : ℕ). record { stamp = record { 0 = 0 }; image = 0; source = s; kind = k; share = e .share }) source kind
-    ∙ ap (λ (s : ℕ). record { stamp = record { 0 = 0 }; image = 0; source = 0; kind = 0; share = s }) share
+  -- and it is the blank one just where they are zeros
+  pub from-blank : sameOrder (orderFrom kind image share) (Publish 0 0) ≡ zeros kind image share
+  from-blank = go (formed kind share) refl
+    where
+      published : (s : ℕ) → isShare s ≡ true → (eqb image 0 && eqb s 0) ≡ false
+      published s e =
+          let low : 1 ≤ s = leb-true _ _ (and-left (leb 1 s) (leb s 100) e) in
+          rw (ne-eqb s 0 (λ q. omega arith)) (and-false (eqb image 0))
 
-pub zero-place : (e : HeldMemory) → isZero e ≡ true → (heldFrom e ≡ noHeld) × (heldFits e ≡ true)
-zero-place e z = subst (λ (x : HeldMemory). (heldFrom x ≡ noHeld) × (heldFits x ≡ true)) (sym (only-zero e z)) (refl, refl)
+      none : (z : Bool) → sameOrder (Publish 0 (cond z 0 255)) (Publish 0 0) ≡ z
+      none true = refl
+      none false = refl
+
+      go : (b : Bool) → formed kind share ≡ b → sameOrder (cond b (orderOf kind image share) (Publish 0 (cond (zeros kind image share) 0 255))) (Publish 0 0) ≡ zeros kind image share
+      go true f = by-form kind share f (λ k s. sameOrder (orderOf k image s) (Publish 0 0) ≡ zeros k image s) published refl refl refl
+      go false f = none (zeros kind image share)

@@ -17,7 +17,6 @@ use Rattle.host.proofs.Facts.{tick-is}
 use Rattle.host.proofs.Keeps.{held-most}
 use Rattle.service.specs.declared.HostMemory.{HostMemory}
 use Rattle.service.specs.Memory.{hostMemory}
-use Rattle.service.specs.Calls.{fits}
 
 pub said-refusal : (k links hop : ℕ) → saidBy k links hop .refusal ≡ k
 said-refusal k links hop = go (eqb k 0) refl
@@ -41,9 +40,6 @@ module _ (f : HostMemory) (j k : ℕ) (after other given : Host) (is : given ≡
       go : (b : Bool) → cond b (hostMemory (cond b after other)) f ≡ cond b (hostMemory after) f
       go true = refl
       go false = refl
-
-  pub left-fitting : fits f ≡ true → cond (eqb j 0) (hostMemory given) f ≡ unless (cond (fits f) k 9) (hostMemory after) f
-  left-fitting e = left ∙ ap (λ (b : Bool). unless (cond b k 9) (hostMemory after) f) (sym e)
 
 -- a tick that is accepted delivers all that is due, at most 32
 pub told-count : (h : Host) (u room n : ℕ) → record { refusal = 0; count = n } ≡ tickSays h u room → (tickRefusal h u room ≡ 0) × (n ≡ length (dueOf h u))

@@ -1,7 +1,8 @@
--- What the proofs of several functions use, and the laws for callers: Through, One.
+-- What the proofs of several functions use, and the laws for callers: Back, Through, One.
 mod Forms
 mod Converts
 mod Lefts
+pub mod Back
 mod Still
 mod Sizes
 pub mod Through

@@ -10,7 +10,8 @@ use Rattle.network.specs.Network.{planned}
 use Rattle.host.specs.Make.{makeRefusal}
 use Rattle.host.specs.Answers.{Said}
 use Rattle.host.specs.Calls.{Call, ticks}
-use Rattle.host.specs.Tick.{tickSays}
+use Rattle.host.specs.Tick.{tickSays, tickList}
+use Rattle.board.specs.Board.{boardRefusal}
 use Rattle.message.specs.declared.Message.{Message}
 use Rattle.message.specs.Calls.{written, writtenTo}
 use Rattle.report.specs.Calls.{reported, told}
@@ -18,8 +19,8 @@ use Rattle.report.specs.Calls as report
 use Rattle.service.specs.declared.HostMemory.{HostMemory}
 use Rattle.service.specs.declared.BoardMemory.{BoardMemory}
 use Rattle.service.specs.declared.PlanMemory.{PlanMemory}
-use Rattle.service.specs.Memory.{hostFrom}
-use Rattle.service.specs.Calls.{pairNumber, callLeft, sendAnswer, tickAnswer, listLeft, makeLeft, orderRefusal, orderLeft, planLeft, readAnswer, readLeft}
+use Rattle.service.specs.Memory.{hostFrom, boardFrom}
+use Rattle.service.specs.Calls.{pairNumber, callLeft, sendNumber, tickNumber, makeLeft, orderLeft, planLeft, readAnswer, readLeft}
 
 -- what is left, and the answer
 both : {A B : Type 0} {left : A} {answer : B} {m o : A} {r s : B} → (m ≡ left) × (r ≡ answer) → (o ≡ left) × (s ≡ answer) → (m ≡ o) × (r ≡ s)
@@ -34,16 +35,16 @@ loom-make-one f rules own m o r s = both
 
 -- `loom_start` and `loom_receive`: the call, and what the host's own call says
 pub loom-send-one : (f : HostMemory) (u : Reading) (c : Call) (said : Said) (m o : HostMemory) (r s : ℕ)
-    → (m ≡ callLeft f u c) × (r ≡ sendAnswer f said) → (o ≡ callLeft f u c) × (s ≡ sendAnswer f said) → (m ≡ o) × (r ≡ s)
+    → (m ≡ callLeft f u c) × (r ≡ sendNumber said) → (o ≡ callLeft f u c) × (s ≡ sendNumber said) → (m ≡ o) × (r ≡ s)
 loom-send-one f u c said m o r s = both
 
 pub loom-tick-one : (f : HostMemory) (u : Reading) (out : List ℕ) (m o : HostMemory) (r s : ℕ) (l k : List ℕ)
-    → (m ≡ callLeft f u (ticks (length out))) × ((r ≡ tickAnswer f (tickSays (hostFrom f) (u .0) (length out))) × (l ≡ listLeft f (u .0) out))
-    → (o ≡ callLeft f u (ticks (length out))) × ((s ≡ tickAnswer f (tickSays (hostFrom f) (u .0) (length out))) × (k ≡ listLeft f (u .0) out)) → (m ≡ o) × ((r ≡ s) × (l ≡ k))
+    → (m ≡ callLeft f u (ticks (length out))) × ((r ≡ tickNumber (tickSays (hostFrom f) (u .0) (length out))) × (l ≡ tickList (hostFrom f) (u .0) out))
+    → (o ≡ callLeft f u (ticks (length out))) × ((s ≡ tickNumber (tickSays (hostFrom f) (u .0) (length out))) × (k ≡ tickList (hostFrom f) (u .0) out)) → (m ≡ o) × ((r ≡ s) × (l ≡ k))
 loom-tick-one f u out m o r s l k x y = (one-result (x .0) (y .0), both (x .1) (y .1))
 
 pub loom-apply-one : (f : BoardMemory) (order : Order) (m o : BoardMemory) (r s : ℕ)
-    → (m ≡ orderLeft f order) × (r ≡ orderRefusal f order) → (o ≡ orderLeft f order) × (s ≡ orderRefusal f order) → (m ≡ o) × (r ≡ s)
+    → (m ≡ orderLeft f order) × (r ≡ boardRefusal (boardFrom f) order) → (o ≡ orderLeft f order) × (s ≡ boardRefusal (boardFrom f) order) → (m ≡ o) × (r ≡ s)
 loom-apply-one f order m o r s = both
 
 pub loom-write-one : (rules : ℕ) (m : Message) (out : List ℕ) (r s : ℕ) (l k : List ℕ)

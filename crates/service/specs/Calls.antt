@@ -1,18 +1,16 @@
 -- What each exported call answers and leaves: what the host's, the board's and the message's own definitions say of what the memory stands for. Assumes nothing.
-use mathlib.Core.Bool.{Bool, cond}
+use mathlib.Core.Bool.{cond}
 use mathlib.Core.List.{List, [], _∷_, _++_}
 use Prim.Native.Nat.{ℕ, _+_, _*_}
 use lib.Dec.{ltb, eqb}
 use lib.ListN.{length, drop}
-use Rattle.lists.specs.Lists.{all}
 use Rattle.clock.specs.declared.Reading.{Reading}
 use Rattle.orders.specs.Orders.{kindOf, imageOf, shareOf}
 use Rattle.network.specs.Network.{planned, Said}
-use Rattle.host.specs.Answers.{unless, saidBy, saidByTick}
+use Rattle.host.specs.Answers.{unless}
 use Rattle.host.specs.Answers as host
 use Rattle.host.specs.Make.{makeRefusal, fresh}
 use Rattle.host.specs.Calls.{Call, refusal, becomes}
-use Rattle.host.specs.Tick.{tickList}
 use Rattle.board.specs.Board.{boardRefusal, boardAfter}
 use Rattle.message.specs.Calls.{readOf}
 use Rattle.message.specs.declared.Found.{Found}
@@ -20,7 +18,7 @@ use Rattle.orders.specs.declared.Order.{Order}
 use Rattle.service.specs.declared.HostMemory.{HostMemory}
 use Rattle.service.specs.declared.BoardMemory.{BoardMemory}
 use Rattle.service.specs.declared.PlanMemory.{PlanMemory}
-use Rattle.service.specs.Memory.{heldFits, hostFrom, hostMemory, placeFits, boardFrom, boardMemory}
+use Rattle.service.specs.Memory.{hostFrom, hostMemory, boardFrom, boardMemory}
 
 -- ---- answers, each one number: the refusal in its low byte, and above it what else the call answers
 
@@ -34,26 +32,10 @@ sendNumber s = s .refusal + (256 * s .hop + 65536 * s .links)
 abbrev pub tickNumber : host.SaidTick → ℕ
 tickNumber s = pairNumber (s .refusal, s .count)
 
--- ---- a host: 9 also where a place of the history holds neither an order nor zeros
+-- ---- a host: a refused call leaves the memory as it was
 
-abbrev pub fits : HostMemory → Bool
-fits f = all heldFits (f .history)
-
-abbrev pub callRefusal : HostMemory → ℕ → Call → ℕ
-callRefusal f u c = cond (fits f) (refusal (hostFrom f) u c) 9
-
--- a refused call leaves the memory as it was
 abbrev pub callLeft : HostMemory → Reading → Call → HostMemory
-callLeft f u c = unless (callRefusal f (u .0) c) (hostMemory (becomes (hostFrom f) u c)) f
-
-abbrev pub sendAnswer : HostMemory → host.Said → ℕ
-sendAnswer f s = cond (fits f) (sendNumber s) 9
-
-abbrev pub tickAnswer : HostMemory → host.SaidTick → ℕ
-tickAnswer f s = cond (fits f) (tickNumber s) 9
-
-abbrev pub listLeft : HostMemory → ℕ → List ℕ → List ℕ
-listLeft f u out = cond (fits f) (tickList (hostFrom f) u out) out
+callLeft f u c = unless (refusal (hostFrom f) (u .0) c) (hostMemory (becomes (hostFrom f) u c)) f
 
 -- the plan is taken from the memory
 abbrev pub makeLeft : HostMemory → ℕ → ℕ → HostMemory
@@ -61,14 +43,8 @@ makeLeft f rules own = unless (makeRefusal (f .plan) rules own) (hostMemory (fre
 
 -- ---- a board
 
-abbrev pub boardFits : BoardMemory → Bool
-boardFits f = all placeFits (f .places)
-
-abbrev pub orderRefusal : BoardMemory → Order → ℕ
-orderRefusal f o = cond (boardFits f) (boardRefusal (boardFrom f) o) 9
-
 abbrev pub orderLeft : BoardMemory → Order → BoardMemory
-orderLeft f o = unless (orderRefusal f o) (boardMemory (boardAfter (boardFrom f) o)) f
+orderLeft f o = unless (boardRefusal (boardFrom f) o) (boardMemory (boardAfter (boardFrom f) o)) f
 
 -- ---- planning: d and each rule set's bound and window are written beside the plan
 

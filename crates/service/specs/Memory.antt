@@ -1,9 +1,8 @@
 -- What flat memory stands for: a host's state, a board's, and back. Assumes nothing.
-use mathlib.Core.Bool.{Bool, cond, _&&_, _||_}
+use mathlib.Core.Bool.{Bool, cond, _&&_}
 use mathlib.Core.List.{List, map}
 use Prim.Native.Nat.{ℕ}
 use lib.Dec.{leb, ltb, eqb}
-use Rattle.lists.specs.Lists.{all}
 use Rattle.orders.specs.declared.Order.{Order}
 use Rattle.orders.specs.declared.Order.the-variants.{Publish}
 use Rattle.orders.specs.Orders.{kindOf, imageOf, shareOf, isKind, isShare, shareFits, orderOf}
@@ -25,9 +24,12 @@ use Rattle.service.specs.declared.BoardMemory.{BoardMemory}
 abbrev pub formed : ℕ → ℕ → Bool
 formed kind share = cond (eqb kind 1) (isShare share) (isKind kind && eqb share 0)
 
--- the order; where the numbers are no order's, the blank one, whose share is out of range
+abbrev pub zeros : ℕ → ℕ → ℕ → Bool
+zeros kind image share = eqb kind 0 && eqb image 0 && eqb share 0
+
+-- the order; zeros are the blank one, "unused places zero", and other numbers that are no order's a publish of share 255. The share of both is out of range
 abbrev pub orderFrom : ℕ → ℕ → ℕ → Order
-orderFrom kind image share = cond (formed kind share) (orderOf kind image share) (Publish 0 0)
+orderFrom kind image share = cond (formed kind share) (orderOf kind image share) (Publish 0 (cond (zeros kind image share) 0 255))
 
 -- a received copy
 abbrev pub copyFrom : ℕ → ℕ → ℕ → ℕ → ℕ → Held
@@ -41,10 +43,6 @@ messageFrom stamp source hop kind image share = record { stamp = record { 0 = st
 
 abbrev pub heldFrom : HeldMemory → Held
 heldFrom e = record { stamp = e .stamp; source = e .source; order = orderFrom (e .kind) (e .image) (e .share) }
-
--- a place holds an order, or none: "unused places zero"
-abbrev pub heldFits : HeldMemory → Bool
-heldFits e = formed (e .kind) (e .share) || (eqb (e .kind) 0 && eqb (e .image) 0 && eqb (e .share) 0)
 
 -- a host's number has one byte; hosts are 0..7, and 255 is none
 abbrev pub ownFrom : ℕ → ℕ
@@ -89,15 +87,15 @@ hostMemory h =
 
 -- ---- a board
 
+-- what stands so; numbers that are no stand's are an image offered to none, which no sound board has
 abbrev pub standFrom : ℕ → ℕ → Stand
-standFrom stand share = cond (eqb stand 1) (Offered share) (cond (eqb stand 2) (Halted share) Absent)
-
--- a share has one byte; "share 0..100"
-abbrev pub placeFits : PlaceMemory → Bool
-placeFits p = cond (eqb (p .stand) 0) (eqb (p .share) 0) (leb (p .stand) 2 && leb (p .share) 100)
+standFrom stand share =
+    cond (eqb stand 0 && eqb share 0) Absent
+    (cond (eqb stand 1 && leb share 100) (Offered share)
+    (cond (eqb stand 2 && leb share 100) (Halted share) (Offered 0)))
 
 abbrev pub placeFrom : PlaceMemory → Place
-placeFrom p = record { image = p .image; stand = cond (placeFits p) (standFrom (p .stand) (p .share)) Absent }
+placeFrom p = record { image = p .image; stand = standFrom (p .stand) (p .share) }
 
 abbrev pub boardFrom : BoardMemory → Board
 boardFrom f = record { count = f .count; places = map placeFrom (f .places) }

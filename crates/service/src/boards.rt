@@ -8,18 +8,14 @@ use board::Board;
 use board::Place;
 use board::Stand;
 ghost use mathlib.Core.Path.{_≡_};
-ghost use Rattle.board.specs.Board.{blank, says};
-ghost use Rattle.service.specs.Memory.{orderFrom, standFrom, placeFits, placeFrom, boardFrom, placeMemory, boardMemory};
-ghost use Rattle.service.specs.Calls.{boardFits, orderRefusal, orderLeft};
+ghost use Rattle.board.specs.Board.{blank, says, boardRefusal};
+ghost use Rattle.service.specs.Memory.{orderFrom, standFrom, placeFrom, boardFrom, placeMemory, boardMemory};
+ghost use Rattle.service.specs.Calls.{orderLeft};
 
 pub(crate) fn left_by_order(memory: BoardMemory, kind: u8, image: u32, share: u16) -> BoardLeft
-    ensures { λ r. ⌜ (r .memory ≡ orderLeft memory (orderFrom kind image share)) × (r .answer ≡ orderRefusal memory (orderFrom kind image share)) ⌝ }
+    ensures { λ r. ⌜ (r .memory ≡ orderLeft memory (orderFrom kind image share)) × (r .answer ≡ boardRefusal (boardFrom memory) (orderFrom kind image share)) ⌝ }
 {
-    let taken = board_from(memory);
-    if !taken.fits {
-        return BoardLeft { memory, answer: 9 };
-    }
-    let board = taken.board;
+    let board = board_from(memory);
     let order = order_from(kind, image, share);
     let applied = board::after_order(board, order);
     let answer = applied.answer;
@@ -47,30 +43,22 @@ fn number_of(answer: Answer) -> u64
     }
 }
 
-// What memory stands for, and whether each of its places holds a stand or zeros.
-pub(crate) struct Shown {
-    pub fits: bool,
-    pub board: Board,
-}
-
-fn board_from(memory: BoardMemory) -> Shown
-    ensures { λ r. ⌜ (r .fits ≡ boardFits memory) × (r .board ≡ boardFrom memory) ⌝ }
+// What memory stands for.
+fn board_from(memory: BoardMemory) -> Board
+    ensures { λ r. ⌜ r ≡ boardFrom memory ⌝ }
 {
     let old = memory.places;
     let mut places = [no_place(); 16];
-    let mut fits = true;
     let mut i = 0;
     while i < 16 {
         let e = old[i];
         places[i] = place_from(e);
-        fits = fits & place_fits(e);
         i += 1;
     }
-    let board = Board {
+    Board {
         count: memory.count,
         places,
-    };
-    Shown { fits, board }
+    }
 }
 
 fn no_place() -> Place
@@ -82,40 +70,28 @@ fn no_place() -> Place
     }
 }
 
-fn place_fits(p: PlaceMemory) -> bool
-    ensures { λ r. ⌜ r ≡ placeFits p ⌝ }
-{
-    if p.stand == 0 {
-        return p.share == 0;
-    }
-    (p.stand <= 2) & (p.share <= 100)
-}
-
 fn place_from(p: PlaceMemory) -> Place
     ensures { λ r. ⌜ r ≡ placeFrom p ⌝ }
 {
-    if !place_fits(p) {
-        return Place {
-            image: p.image,
-            stand: Stand::Absent,
-        };
-    }
     Place {
         image: p.image,
-        stand: stand_from(p.stand, p.share as u8),
+        stand: stand_from(p.stand, p.share),
     }
 }
 
-fn stand_from(stand: u16, share: u8) -> Stand
+fn stand_from(stand: u16, share: u16) -> Stand
     ensures { λ r. ⌜ r ≡ standFrom stand share ⌝ }
 {
-    if stand == 1 {
-        return Stand::Offered(share);
+    if (stand == 0) & (share == 0) {
+        return Stand::Absent;
     }
-    if stand == 2 {
-        return Stand::Halted(share);
+    if (stand == 1) & (share <= 100) {
+        return Stand::Offered(share as u8);
     }
-    Stand::Absent
+    if (stand == 2) & (share <= 100) {
+        return Stand::Halted(share as u8);
+    }
+    Stand::Offered(0)
 }
 
 fn board_memory(board: Board) -> BoardMemory

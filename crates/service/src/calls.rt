@@ -20,10 +20,10 @@ ghost use Rattle.host.specs.Answers.{says};
 ghost use Rattle.host.specs.Make.{makeRefusal};
 ghost use Rattle.host.specs.Start.{startSays};
 ghost use Rattle.host.specs.Receive.{receiveSays};
-ghost use Rattle.host.specs.Tick.{tickSays};
+ghost use Rattle.host.specs.Tick.{tickSays, tickList};
 ghost use Rattle.host.specs.Calls.{start, receive, ticks};
 ghost use Rattle.service.specs.Memory.{orderFrom, copyFrom, hostFrom, hostMemory};
-ghost use Rattle.service.specs.Calls.{callLeft, sendNumber, sendAnswer, tickAnswer, listLeft, makeLeft};
+ghost use Rattle.service.specs.Calls.{callLeft, sendNumber, tickNumber, makeLeft};
 
 // A fresh host of the plan that stands in the memory.
 pub(crate) fn left_by_make(memory: HostMemory, rules: u8, own: u8) -> HostLeft
@@ -54,13 +54,9 @@ pub(crate) fn left_by_start(
     image: u32,
     share: u16,
 ) -> HostLeft
-    ensures { λ r. ⌜ (r .memory ≡ callLeft memory (record { 0 = u }) (start (orderFrom kind image share))) × (r .answer ≡ sendAnswer memory (startSays (hostFrom memory) u (orderFrom kind image share))) ⌝ }
+    ensures { λ r. ⌜ (r .memory ≡ callLeft memory (record { 0 = u }) (start (orderFrom kind image share))) × (r .answer ≡ sendNumber (startSays (hostFrom memory) u (orderFrom kind image share))) ⌝ }
 {
-    let taken = host_from(memory);
-    if !taken.fits {
-        return HostLeft { memory, answer: 9 };
-    }
-    let host = taken.host;
+    let host = host_from(memory);
     let order = order_from(kind, image, share);
     sent(memory, host::after_start(host, Reading(u), order))
 }
@@ -76,13 +72,9 @@ pub(crate) fn left_by_receive(
     image: u32,
     share: u16,
 ) -> HostLeft
-    ensures { λ r. ⌜ (r .memory ≡ callLeft memory (record { 0 = u }) (receive link hop (copyFrom stamp source kind image share))) × (r .answer ≡ sendAnswer memory (receiveSays (hostFrom memory) u link hop (copyFrom stamp source kind image share))) ⌝ }
+    ensures { λ r. ⌜ (r .memory ≡ callLeft memory (record { 0 = u }) (receive link hop (copyFrom stamp source kind image share))) × (r .answer ≡ sendNumber (receiveSays (hostFrom memory) u link hop (copyFrom stamp source kind image share))) ⌝ }
 {
-    let taken = host_from(memory);
-    if !taken.fits {
-        return HostLeft { memory, answer: 9 };
-    }
-    let host = taken.host;
+    let host = host_from(memory);
     let copy = Held {
         stamp: Reading(stamp),
         source,
@@ -115,13 +107,9 @@ fn sent(memory: HostMemory, acted: Acted) -> HostLeft
 }
 
 pub(crate) fn left_by_tick(memory: HostMemory, u: u64, out: &mut [u8]) -> HostLeft
-    ensures { λ r. ⌜ (r .memory ≡ callLeft memory (record { 0 = u }) (ticks (length (now (out .entry))))) × ((r .answer ≡ tickAnswer memory (tickSays (hostFrom memory) u (length (now (out .entry))))) × (now (out .exit) ≡ listLeft memory u (now (out .entry)))) ⌝ }
+    ensures { λ r. ⌜ (r .memory ≡ callLeft memory (record { 0 = u }) (ticks (length (now (out .entry))))) × ((r .answer ≡ tickNumber (tickSays (hostFrom memory) u (length (now (out .entry))))) × (now (out .exit) ≡ tickList (hostFrom memory) u (now (out .entry)))) ⌝ }
 {
-    let taken = host_from(memory);
-    if !taken.fits {
-        return HostLeft { memory, answer: 9 };
-    }
-    let host = taken.host;
+    let host = host_from(memory);
     let ticked = host::after_tick(host, Reading(u), out);
     let answer = ticked.answer;
     match answer {

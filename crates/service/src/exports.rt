@@ -14,10 +14,11 @@ ghost use Rattle.network.specs.Network.{planned};
 ghost use Rattle.host.specs.Make.{makeRefusal};
 ghost use Rattle.host.specs.Start.{startSays};
 ghost use Rattle.host.specs.Receive.{receiveSays};
-ghost use Rattle.host.specs.Tick.{tickSays};
+ghost use Rattle.host.specs.Tick.{tickSays, tickList};
 ghost use Rattle.host.specs.Calls.{start, receive, ticks};
-ghost use Rattle.service.specs.Memory.{orderFrom, copyFrom, hostFrom};
-ghost use Rattle.service.specs.Calls.{callLeft, sendAnswer, tickAnswer, listLeft, makeLeft, orderRefusal, orderLeft, planLeft};
+ghost use Rattle.board.specs.Board.{boardRefusal};
+ghost use Rattle.service.specs.Memory.{orderFrom, copyFrom, hostFrom, boardFrom};
+ghost use Rattle.service.specs.Calls.{callLeft, sendNumber, tickNumber, makeLeft, orderLeft, planLeft};
 
 #[no_mangle]
 pub extern "C" fn loom_plan(memory: &mut PlanMemory) -> u64
@@ -46,7 +47,7 @@ pub extern "C" fn loom_start(
     image: u32,
     share: u16,
 ) -> u64
-    ensures { λ r. ⌜ (now (memory .exit) ≡ callLeft (now (memory .entry)) (record { 0 = u }) (start (orderFrom kind image share))) × (r ≡ sendAnswer (now (memory .entry)) (startSays (hostFrom (now (memory .entry))) u (orderFrom kind image share))) ⌝ }
+    ensures { λ r. ⌜ (now (memory .exit) ≡ callLeft (now (memory .entry)) (record { 0 = u }) (start (orderFrom kind image share))) × (r ≡ sendNumber (startSays (hostFrom (now (memory .entry))) u (orderFrom kind image share))) ⌝ }
 {
     let left = left_by_start(*memory, u, kind, image, share);
     *memory = left.memory;
@@ -65,7 +66,7 @@ pub extern "C" fn loom_receive(
     image: u32,
     share: u16,
 ) -> u64
-    ensures { λ r. ⌜ (now (memory .exit) ≡ callLeft (now (memory .entry)) (record { 0 = u }) (receive link hop (copyFrom stamp source kind image share))) × (r ≡ sendAnswer (now (memory .entry)) (receiveSays (hostFrom (now (memory .entry))) u link hop (copyFrom stamp source kind image share))) ⌝ }
+    ensures { λ r. ⌜ (now (memory .exit) ≡ callLeft (now (memory .entry)) (record { 0 = u }) (receive link hop (copyFrom stamp source kind image share))) × (r ≡ sendNumber (receiveSays (hostFrom (now (memory .entry))) u link hop (copyFrom stamp source kind image share))) ⌝ }
 {
     let left = left_by_receive(*memory, u, link, hop, stamp, source, kind, image, share);
     *memory = left.memory;
@@ -74,7 +75,7 @@ pub extern "C" fn loom_receive(
 
 #[no_mangle]
 pub extern "C" fn loom_tick(memory: &mut HostMemory, u: u64, out: &mut [u8]) -> u64
-    ensures { λ r. ⌜ (now (memory .exit) ≡ callLeft (now (memory .entry)) (record { 0 = u }) (ticks (length (now (out .entry))))) × ((r ≡ tickAnswer (now (memory .entry)) (tickSays (hostFrom (now (memory .entry))) u (length (now (out .entry))))) × (now (out .exit) ≡ listLeft (now (memory .entry)) u (now (out .entry)))) ⌝ }
+    ensures { λ r. ⌜ (now (memory .exit) ≡ callLeft (now (memory .entry)) (record { 0 = u }) (ticks (length (now (out .entry))))) × ((r ≡ tickNumber (tickSays (hostFrom (now (memory .entry))) u (length (now (out .entry))))) × (now (out .exit) ≡ tickList (hostFrom (now (memory .entry))) u (now (out .entry)))) ⌝ }
 {
     let left = left_by_tick(*memory, u, out);
     *memory = left.memory;
@@ -83,7 +84,7 @@ pub extern "C" fn loom_tick(memory: &mut HostMemory, u: u64, out: &mut [u8]) -> 
 
 #[no_mangle]
 pub extern "C" fn loom_apply(memory: &mut BoardMemory, kind: u8, image: u32, share: u16) -> u64
-    ensures { λ r. ⌜ (now (memory .exit) ≡ orderLeft (now (memory .entry)) (orderFrom kind image share)) × (r ≡ orderRefusal (now (memory .entry)) (orderFrom kind image share)) ⌝ }
+    ensures { λ r. ⌜ (now (memory .exit) ≡ orderLeft (now (memory .entry)) (orderFrom kind image share)) × (r ≡ boardRefusal (boardFrom (now (memory .entry))) (orderFrom kind image share)) ⌝ }
 {
     let left = left_by_order(*memory, kind, image, share);
     *memory = left.memory;

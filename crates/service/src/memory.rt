@@ -1,17 +1,16 @@
 // A host's state from its flat memory, and back.
 use crate::HeldMemory;
 use crate::HostMemory;
-use crate::orders_in::is_formed;
+use crate::orders_in::is_zero;
 use crate::orders_in::order_from;
 use clock::Reading;
 use host::Held;
 use host::Host;
 use orders::Order;
 ghost use mathlib.Core.Path.{_≡_};
-ghost use Rattle.host.specs.State.{noHeld};
-ghost use Rattle.service.specs.Memory.{heldFrom, heldFits, ownFrom, hostFrom, heldMemory, hostMemory};
-ghost use Rattle.service.specs.Calls.{fits};
-ghost use Rattle.service.specs.Inside.{isZero, memoryAt};
+ghost use Rattle.host.specs.State.{noHeld, isNoHeld};
+ghost use Rattle.service.specs.Memory.{heldFrom, ownFrom, hostFrom, heldMemory, hostMemory};
+ghost use Rattle.service.specs.Inside.{memoryAt};
 
 // The memory at a later reading, all else as it was.
 pub(crate) fn later(memory: HostMemory, u: Reading) -> HostMemory
@@ -22,33 +21,26 @@ pub(crate) fn later(memory: HostMemory, u: Reading) -> HostMemory
     after
 }
 
-// What memory stands for, and whether each place of its history holds an order or zeros.
-pub(crate) struct Taken {
-    pub fits: bool,
-    pub host: Host,
-}
-
-pub(crate) fn host_from(memory: HostMemory) -> Taken
-    ensures { λ r. ⌜ (r .fits ≡ fits memory) × (r .host ≡ hostFrom memory) ⌝ }
+// What memory stands for.
+pub(crate) fn host_from(memory: HostMemory) -> Host
+    ensures { λ r. ⌜ r ≡ hostFrom memory ⌝ }
 {
     let places = memory.history;
     let mut history = [no_held(); 32];
-    let mut fits = true;
     let mut i = 0;
     while i < 32 {
         let at = i;
         let e = places[at];
         i += 1;
-        // Zeros stand for what is there already.
-        if !is_zero(e) {
+        // An unused place is there already.
+        if !is_unused(e) {
             history[at] = held_from(e);
-            fits = fits & held_fits(e);
         }
     }
     let plan = memory.plan;
     let last = memory.last;
     let starts = memory.starts;
-    let host = Host {
+    Host {
         plan,
         rules: memory.rules,
         d: memory.d,
@@ -59,8 +51,7 @@ pub(crate) fn host_from(memory: HostMemory) -> Taken
         starts,
         held: memory.held,
         history,
-    };
-    Taken { fits, host }
+    }
 }
 
 fn no_held() -> Held
@@ -73,10 +64,11 @@ fn no_held() -> Held
     }
 }
 
-fn is_zero(e: HeldMemory) -> bool
-    ensures { λ r. ⌜ r ≡ isZero e ⌝ }
+// Whether a place is unused.
+fn is_unused(e: HeldMemory) -> bool
+    ensures { λ r. ⌜ r ≡ isNoHeld (heldFrom e) ⌝ }
 {
-    (e.stamp.0 == 0) & (e.image == 0) & (e.source == 0) & (e.kind == 0) & (e.share == 0)
+    (e.stamp.0 == 0) & (e.source == 0) & is_zero(e.kind, e.image, e.share)
 }
 
 fn held_from(e: HeldMemory) -> Held
@@ -88,12 +80,6 @@ fn held_from(e: HeldMemory) -> Held
         source: e.source,
         order: order_from(e.kind, e.image, e.share),
     }
-}
-
-fn held_fits(e: HeldMemory) -> bool
-    ensures { λ r. ⌜ r ≡ heldFits e ⌝ }
-{
-    is_formed(e.kind, e.share) | ((e.kind == 0) & (e.image == 0) & (e.share == 0))
 }
 
 // A host's number, which has one byte.

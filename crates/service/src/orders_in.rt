@@ -2,7 +2,7 @@
 use orders::Order;
 use orders::order_of;
 ghost use mathlib.Core.Path.{_≡_};
-ghost use Rattle.service.specs.Memory.{formed, orderFrom};
+ghost use Rattle.service.specs.Memory.{formed, zeros, orderFrom};
 
 // Whether kind and share are some order's.
 pub(crate) fn is_formed(kind: u8, share: u16) -> bool
@@ -14,12 +14,25 @@ pub(crate) fn is_formed(kind: u8, share: u16) -> bool
     (1 <= kind) & (kind <= 4) & (share == 0)
 }
 
-// The order; where the numbers are no order's, the blank one, which every call refuses.
+// Whether they are all zero, as in an unused place.
+pub(crate) fn is_zero(kind: u8, image: u32, share: u16) -> bool
+    ensures { λ r. ⌜ r ≡ zeros kind image share ⌝ }
+{
+    (kind == 0) & (image == 0) & (share == 0)
+}
+
+// The order; where the numbers are no order's, one that every call refuses: the blank one of zeros alone.
 pub(crate) fn order_from(kind: u8, image: u32, share: u16) -> Order
     ensures { λ r. ⌜ r ≡ orderFrom kind image share ⌝ }
 {
-    if !is_formed(kind, share) {
+    if is_formed(kind, share) {
+        return order_of(kind, image, share as u8);
+    }
+    if is_zero(kind, image, share) {
         return Order::Publish { image: 0, share: 0 };
     }
-    order_of(kind, image, share as u8)
+    Order::Publish {
+        image: 0,
+        share: 255,
+    }
 }

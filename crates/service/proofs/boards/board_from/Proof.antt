@@ -1,17 +1,15 @@
--- The places are filled one by one, and each is tested. Assumes nothing.
+-- The places are filled one by one. Assumes nothing.
 use borrow.Author.Needs.{needs}
 use native.Mathlib.Omega.{arith}
-use mathlib.Core.Path.{_≡_, refl, sym, ap, _∙_}
-use mathlib.Core.Bool.{_&&_}
+use mathlib.Core.Path.{_≡_, sym, ap, _∙_}
 use mathlib.Core.List.{List, map}
 use Prim.Native.Nat.{ℕ, _-_, _≤_}
-use lib.ListN.{length, length-map, take, drop, set, getD}
-use Rattle.lists.specs.Lists.{all, pad}
-use Rattle.lists.proofs.Loops.{left-next, left-none, all-turn, all-end}
+use lib.ListN.{length, length-map, take, set}
+use Rattle.lists.specs.Lists.{pad}
 use Rattle.board.specs.declared.Place.{Place}
 use Rattle.board.specs.Board.{blank}
 use Rattle.service.specs.declared.PlaceMemory.{PlaceMemory}
-use Rattle.service.specs.Memory.{placeFrom, placeFits}
+use Rattle.service.specs.Memory.{placeFrom}
 use Rattle.service.proofs.Converts.{fill-next, fill-all}
 use Rattle.service.proofs.boards.board_from.Statement.{statement}
 use Rattle.service.proofs.boards.board_from.Tie as tie
@@ -20,17 +18,16 @@ abbrev none : PlaceMemory
 none = record { image = 0; stand = 0; share = 0 }
 
 abbrev Inv-loop : tie.InvT-loop
-Inv-loop memory old places₀ fits₀ i₀ places fits i =
-    (i ≤ 16) × (places ≡ pad 16 blank (map placeFrom (take i old))) × ((fits && all placeFits (drop i old)) ≡ all placeFits old)
+Inv-loop memory old places₀ i₀ places i = (i ≤ 16) × (places ≡ pad 16 blank (map placeFrom (take i old)))
 
 abbrev μ-loop : tie.MeasureT-loop
-μ-loop memory old places₀ fits₀ i₀ places fits i = 16 - i
+μ-loop memory old places₀ i₀ places i = 16 - i
 
 no-place-requires : tie.Need-no-place-requires Inv-loop μ-loop
 no-place-requires c κs = search needs
 
 loop-holds : tie.Need-loop-holds Inv-loop μ-loop
-loop-holds c = (search needs, rw (c .no-place .ensures), refl)
+loop-holds c = (search needs, rw (c .no-place .ensures))
 
 mul-e : tie.Need-mul-e Inv-loop μ-loop
 mul-e c = search needs
@@ -47,9 +44,6 @@ mul-places c = search needs
 array-set-from-places : tie.Need-array-set-from-places Inv-loop μ-loop
 array-set-from-places c = search needs
 
-place-fits-requires : tie.Need-place-fits-requires Inv-loop μ-loop
-place-fits-requires c κs = search needs
-
 add-i : tie.Need-add-i Inv-loop μ-loop
 add-i c = search needs
 
@@ -58,14 +52,13 @@ loop-less c = search needs
 
 loop-again : tie.Need-loop-again Inv-loop μ-loop
 loop-again c =
-    let s = c .before .before .before .before .loop in
-    let l : List PlaceMemory = c .before .before .before .before .before .before .before .args .memory .places in
-    let n : length l ≡ 16 = sym (length-map l _) ∙ c .before .before .before .before .before .before .before .good .0 .1 .1 .1 .0 .1 .0 .1 in (
+    let s = c .before .before .before .loop in
+    let l : List PlaceMemory = c .before .before .before .before .before .before .args .memory .places in
+    let n : length l ≡ 16 = sym (length-map l _) ∙ c .before .before .before .before .before .before .good .0 .1 .1 .1 .0 .1 .0 .1 in (
       search needs,
-      ap (λ (t : List Place). set t (s .i) (c .before .place-from .result)) (s .inv .1)
-          ∙ ap (λ (x : Place). set (pad 16 blank (map placeFrom (take (s .i) l))) (s .i) x) (c .before .place-from .ensures)
+      ap (λ (t : List Place). set t (s .i) (c .place-from .result)) (s .inv .1)
+          ∙ ap (λ (x : Place). set (pad 16 blank (map placeFrom (take (s .i) l))) (s .i) x) (c .place-from .ensures)
           ∙ fill-next placeFrom 16 blank l none (s .i) (omega arith) (omega arith),
-      all-turn placeFits (s .fits) (c .place-fits .result) (left-next l none (s .i) (omega arith)) (s .inv .2) (c .place-fits .ensures),
     )
 
 returns : tie.Need-returns Inv-loop μ-loop
@@ -73,7 +66,7 @@ returns c =
     let s = c .before .loop in
     let l : List PlaceMemory = c .before .before .before .before .args .memory .places in
     let n : length l ≡ 16 = sym (length-map l _) ∙ c .before .before .before .before .good .0 .1 .1 .1 .0 .1 .0 .1 in
-    (all-end placeFits (s .fits) (left-none l (s .i) (omega arith)) (s .inv .2), rw (s .inv .1 ∙ fill-all placeFrom 16 blank l (s .i) (omega arith) (omega arith)))
+    rw (s .inv .1 ∙ fill-all placeFrom 16 blank l (s .i) (omega arith) (omega arith))
 
 pub board-from-spec : {M : Type 1} → statement M
 board-from-spec =
@@ -88,7 +81,6 @@ board-from-spec =
     place-from-requires
     mul-places
     array-set-from-places
-    place-fits-requires
     add-i
     loop-less
     loop-again

@@ -1,32 +1,26 @@
--- Memory that fits gives the host, and what its tick gives back is left; where nothing is due that is the memory at a later reading. Assumes nothing.
+-- What the tick of the host that the memory stands for gives back is left; where nothing is due that is the memory at a later reading. Assumes nothing.
 use borrow.Author.Needs.{needs}
-use mathlib.Core.Path.{_≡_, refl, sym, ap, _∙_}
-use mathlib.Core.Bool.{Bool, true, false, cond}
-use Prim.Native.Nat.{ℕ, _+_, _*_, _≤_}
+use mathlib.Core.Path.{_≡_, sym, ap, _∙_}
+use mathlib.Core.Bool.{Bool, cond}
+use Prim.Native.Nat.{ℕ, _*_}
 use native.Mathlib.Omega.{arith}
-use borrow.Author.Tests.{not-true, not-false}
 use lib.ListN.{length, length-map}
 use Rattle.clock.specs.declared.Reading.{Reading}
 use Rattle.host.specs.declared.Host.{Host}
 use Rattle.host.specs.declared.TickAnswer.the-variants.{Delivered, Refused}
 use Rattle.host.specs.Answers.{number, SaidTick, saysTick, unless}
-use Rattle.host.proofs.Facts.{tick-is}
 use Rattle.host.specs.Tick.{tickRefusal, tickSays, tickHost, tickList, afterTick}
+use Rattle.host.proofs.Facts.{tick-is}
 use Rattle.host.proofs.Numbers.{not-none}
 use Rattle.service.specs.Memory.{hostFrom, hostMemory}
-use Rattle.service.specs.Calls.{fits, tickNumber}
-use Rattle.service.proofs.Lefts.{said-tick, told-count, left-fitting, few-due}
+use Rattle.service.specs.Calls.{tickNumber}
+use Rattle.service.proofs.Lefts.{said-tick, told-count, left, few-due}
 use Rattle.service.proofs.Still.{still}
 use Rattle.service.proofs.calls.left_by_tick.Statement.{statement}
 use Rattle.service.proofs.calls.left_by_tick.Tie as tie
 
 host-from-requires : tie.Need-host-from-requires
 host-from-requires c κs = search needs
-
-returns : tie.Need-returns
-returns c =
-    let no : fits (c .before .before .before .before .args .memory) ≡ false = sym (c .before .before .host-from .ensures .0) ∙ not-true _ (c .if1 .taken) in
-    simp no (refl, (refl, refl))
 
 after-tick-requires : tie.Need-after-tick-requires
 after-tick-requires c κs = search needs
@@ -37,8 +31,8 @@ enum-known-answer c = search needs
 number-of-requires : tie.Need-number-of-requires
 number-of-requires c κs = search needs
 
-cast-t17 : tie.Need-cast-t17
-cast-t17 c = search needs
+cast-t15 : tie.Need-cast-t15
+cast-t15 c = search needs
 
 enum-known-answer-2 : tie.Need-enum-known-answer-2
 enum-known-answer-2 c = search needs
@@ -49,104 +43,94 @@ later-requires c κs = search needs
 same-length : tie.Need-same-length
 same-length c = search needs
 
-returns-2 : tie.Need-returns-2
-returns-2 c =
-    let a = c .before .before .before .before .before .before .before .before .before .before .before .before .before .before .args in
-    let t = c .before .before .before .before .before .before .before .before .before .before .before .before .host-from in
+returns : tie.Need-returns
+returns c =
+    let a = c .before .before .before .before .before .before .before .before .before .before .before .args in
+    let t = c .before .before .before .before .before .before .before .before .before .host-from in
     let r = c .before .before .before .before .before .before .before .after-tick in
     let u : Reading = record { 0 = a .u } in
     let h : Host = hostFrom (a .memory) in
     let room : ℕ = length (a .out .now) in
-    let long : length (a .memory .history) ≡ 32 = sym (length-map (a .memory .history) _) ∙ c .before .before .before .before .before .before .before .before .before .before .before .before .before .before .good .0 .1 .1 .1 .1 .1 .1 .1 .1 .0 .1 .0 .1 in
-    let yes : fits (a .memory) ≡ true = sym (t .ensures .0) ∙ not-false _ (c .before .before .before .before .before .before .before .before .before .before .if1 .left) in
-    let list = r .ensures .1 .1 ∙ ap (λ (g : Host). tickList g (a .u) (a .out .now)) (t .ensures .1) in
-    let said : saysTick (r .result .answer) ≡ tickSays h (a .u) room = r .ensures .1 .0 ∙ ap (λ (g : Host). tickSays g (a .u) room) (t .ensures .1) in
+    let long : length (a .memory .history) ≡ 32 = sym (length-map (a .memory .history) _) ∙ c .before .before .before .before .before .before .before .before .before .before .before .good .0 .1 .1 .1 .1 .1 .1 .1 .1 .0 .1 .0 .1 in
+    let list = r .ensures .1 .1 ∙ ap (λ (g : Host). tickList g (a .u) (a .out .now)) (t .ensures) in
+    let said : saysTick (r .result .answer) ≡ tickSays h (a .u) room = r .ensures .1 .0 ∙ ap (λ (g : Host). tickSays g (a .u) room) (t .ensures) in
     let n = c .before .before .before .answer2 .given .0 .0 in
     let tells : saysTick (Delivered n) ≡ tickSays h (a .u) room = ap saysTick (sym (c .before .before .before .answer2 .given .1)) ∙ said in
     let told = told-count h (a .u) room n tells in
-    let zero : n ≡ 0 = c .before .if2 .taken in
+    let zero : n ≡ 0 = c .before .if1 .taken in
     let whole : 0 ≡ tickNumber (saysTick (Delivered n)) = omega arith in (
       c .later .ensures
-          ∙ still (a .memory) u long yes (tick-is h (a .u) room (told .0) .sound) (sym (told .1) ∙ zero)
-          ∙ left-fitting (a .memory) 0 _ (afterTick h u) h (afterTick h u) (ap (λ (k : ℕ). unless k (afterTick h u) h) (sym (told .0))) (sym (told .0)) yes,
-      (whole ∙ ap tickNumber tells ∙ rw yes refl, list ∙ rw yes refl),
+          ∙ still (a .memory) u long (tick-is h (a .u) room (told .0) .sound) (sym (told .1) ∙ zero)
+          ∙ left (a .memory) 0 _ (afterTick h u) h (afterTick h u) (ap (λ (k : ℕ). unless k (afterTick h u) h) (sym (told .0))) (sym (told .0)),
+      (whole ∙ ap tickNumber tells, list),
     )
 
 host-memory-requires : tie.Need-host-memory-requires
 host-memory-requires c κs = search needs
 
-mul-t23 : tie.Need-mul-t23
-mul-t23 c =
-    let a = c .before .before .before .before .before .before .before .before .before .before .before .before .before .before .before .args in
-    let t = c .before .before .before .before .before .before .before .before .before .before .before .before .before .host-from in
-    let r = c .before .before .before .before .before .before .before .before .after-tick in
-    let e = ap saysTick (sym (c .before .before .before .before .answer2 .given .1)) ∙ r .ensures .1 .0 in
-    let few = few-due _ _ _ _ e in
-    omega (arith, few)
+mul-t21 : tie.Need-mul-t21
+mul-t21 c =
+    let e = ap saysTick (sym (c .before .before .before .before .answer2 .given .1)) ∙ c .before .before .before .before .before .before .before .before .after-tick .ensures .1 .0 in
+    omega (arith, few-due _ _ _ _ e)
 
 same-length-2 : tie.Need-same-length-2
 same-length-2 c = search needs
 
-returns-3 : tie.Need-returns-3
-returns-3 c =
-    let a = c .before .before .before .before .before .before .before .before .before .before .before .before .before .args in
-    let t = c .before .before .before .before .before .before .before .before .before .before .before .host-from in
+returns-2 : tie.Need-returns-2
+returns-2 c =
+    let a = c .before .before .before .before .before .before .before .before .before .before .args in
+    let t = c .before .before .before .before .before .before .before .before .host-from in
     let r = c .before .before .before .before .before .before .after-tick in
     let u : Reading = record { 0 = a .u } in
     let h : Host = hostFrom (a .memory) in
     let room : ℕ = length (a .out .now) in
-    let yes : fits (a .memory) ≡ true = sym (t .ensures .0) ∙ not-false _ (c .before .before .before .before .before .before .before .before .before .if1 .left) in
-    let host : r .result .host ≡ tickHost h u room = r .ensures .0 ∙ ap (λ (g : Host). tickHost g u room) (t .ensures .1) in
-    let list = r .ensures .1 .1 ∙ ap (λ (g : Host). tickList g (a .u) (a .out .now)) (t .ensures .1) in
-    let said : saysTick (r .result .answer) ≡ tickSays h (a .u) room = r .ensures .1 .0 ∙ ap (λ (g : Host). tickSays g (a .u) room) (t .ensures .1) in
+    let host : r .result .host ≡ tickHost h u room = r .ensures .0 ∙ ap (λ (g : Host). tickHost g u room) (t .ensures) in
+    let list = r .ensures .1 .1 ∙ ap (λ (g : Host). tickList g (a .u) (a .out .now)) (t .ensures) in
+    let said : saysTick (r .result .answer) ≡ tickSays h (a .u) room = r .ensures .1 .0 ∙ ap (λ (g : Host). tickSays g (a .u) room) (t .ensures) in
     let w = c .before .before .answer .given .0 .0 in
     let tells : saysTick (Refused w) ≡ tickSays h (a .u) room = ap saysTick (sym (c .before .before .answer .given .1)) ∙ said in
     let same = ap (λ (s : SaidTick). s .refusal) tells ∙ said-tick (tickRefusal h (a .u) room) _ in
     let whole : number w ≡ tickNumber (saysTick (Refused w)) = omega arith in (
-      sym (ap (λ (b : Bool). cond b (hostMemory (r .result .host)) (a .memory)) (not-none w)) ∙ left-fitting (a .memory) (number w) _ (afterTick h u) h (r .result .host) host same yes,
-      (c .number-of .ensures ∙ whole ∙ ap tickNumber tells ∙ rw yes refl, list ∙ rw yes refl),
+      sym (ap (λ (b : Bool). cond b (hostMemory (r .result .host)) (a .memory)) (not-none w)) ∙ left (a .memory) (number w) _ (afterTick h u) h (r .result .host) host same,
+      (c .number-of .ensures ∙ whole ∙ ap tickNumber tells, list),
     )
 
 same-length-3 : tie.Need-same-length-3
 same-length-3 c = search needs
 
-returns-4 : tie.Need-returns-4
-returns-4 c =
-    let a = c .before .before .before .before .before .before .before .before .before .before .before .before .before .before .before .args in
-    let t = c .before .before .before .before .before .before .before .before .before .before .before .before .before .host-from in
+returns-3 : tie.Need-returns-3
+returns-3 c =
+    let a = c .before .before .before .before .before .before .before .before .before .before .before .before .args in
+    let t = c .before .before .before .before .before .before .before .before .before .before .host-from in
     let r = c .before .before .before .before .before .before .before .before .after-tick in
     let u : Reading = record { 0 = a .u } in
     let h : Host = hostFrom (a .memory) in
     let room : ℕ = length (a .out .now) in
-    let yes : fits (a .memory) ≡ true = sym (t .ensures .0) ∙ not-false _ (c .before .before .before .before .before .before .before .before .before .before .before .if1 .left) in
-    let host : r .result .host ≡ tickHost h u room = r .ensures .0 ∙ ap (λ (g : Host). tickHost g u room) (t .ensures .1) in
-    let list = r .ensures .1 .1 ∙ ap (λ (g : Host). tickList g (a .u) (a .out .now)) (t .ensures .1) in
-    let said : saysTick (r .result .answer) ≡ tickSays h (a .u) room = r .ensures .1 .0 ∙ ap (λ (g : Host). tickSays g (a .u) room) (t .ensures .1) in
+    let host : r .result .host ≡ tickHost h u room = r .ensures .0 ∙ ap (λ (g : Host). tickHost g u room) (t .ensures) in
+    let list = r .ensures .1 .1 ∙ ap (λ (g : Host). tickList g (a .u) (a .out .now)) (t .ensures) in
+    let said : saysTick (r .result .answer) ≡ tickSays h (a .u) room = r .ensures .1 .0 ∙ ap (λ (g : Host). tickSays g (a .u) room) (t .ensures) in
     let n = c .before .before .before .before .answer2 .given .0 .0 in
     let tells : saysTick (Delivered n) ≡ tickSays h (a .u) room = ap saysTick (sym (c .before .before .before .before .answer2 .given .1)) ∙ said in
     let same = ap (λ (s : SaidTick). s .refusal) tells ∙ said-tick (tickRefusal h (a .u) room) _ in
-    let whole : 256 * n ≡ tickNumber (saysTick (Delivered n)) = omega arith in (
-      c .host-memory .ensures ∙ left-fitting (a .memory) 0 _ (afterTick h u) h (r .result .host) host same yes,
-      (whole ∙ ap tickNumber tells ∙ rw yes refl, list ∙ rw yes refl),
-    )
+    let whole : 256 * n ≡ tickNumber (saysTick (Delivered n)) = omega arith in
+    (c .host-memory .ensures ∙ left (a .memory) 0 _ (afterTick h u) h (r .result .host) host same, (whole ∙ ap tickNumber tells, list))
 
 pub left-by-tick-spec : {M : Type 1} → statement M
 left-by-tick-spec =
     tie.close
     (tie.spec
     host-from-requires
-    returns
     after-tick-requires
     enum-known-answer
     number-of-requires
-    cast-t17
+    cast-t15
     enum-known-answer-2
     later-requires
     same-length
-    returns-2
+    returns
     host-memory-requires
-    mul-t23
+    mul-t21
     same-length-2
-    returns-3
+    returns-2
     same-length-3
-    returns-4)
+    returns-3)

@@ -38,8 +38,9 @@ use denote.Triple.Spec.{Meets, tripleOf}
 use denote.Triple.Table.{entered, cited}
 use denote.Triple.Walked.{says, Stays, stay-ref, stay-none, walkOf, goes-none, goes-ref, Walks, ends-at, walked, walk-meets}
 use denote.Exit.{yes}
-use Rattle.service.specs.Memory.{orderFrom}
-use Rattle.service.specs.Calls.{orderRefusal, orderLeft}
+use Rattle.board.specs.Board.{boardRefusal}
+use Rattle.service.specs.Memory.{orderFrom, boardFrom}
+use Rattle.service.specs.Calls.{orderLeft}
 use Rattle.service.specs.declared.BoardMemory.{BoardMemory}
 use Rattle.service.specs.declared.BoardLeft.{BoardLeft}
 use Rattle.service.proofs.BoardMemory as BoardMemory-row
@@ -97,7 +98,7 @@ module _ {M : Type 1} (𝓤 : URA M) (H : Heap 𝓤) (A : Atoms 𝓤) (W : Given
 
   -- what it ensures, and that alone
   abbrev Said : BoardLeft → Type 0
-  Said r = (r .memory ≡ orderLeft h (orderFrom kind image share)) × ((r .answer) ≡ orderRefusal h (orderFrom kind image share))
+  Said r = (r .memory ≡ orderLeft h (orderFrom kind image share)) × ((r .answer) ≡ boardRefusal (boardFrom h) (orderFrom kind image share))
 
   said : (r : BoardLeft) → ent 𝓤 (ensured 𝓤 H A step.ended (step.clauses 𝓤 H A at-mem run) tt args tt r) (fact 𝓤 (Said r))
   said r = exE 𝓤 _ (λ ws. snd∗ 𝓤 (sem 𝓤 H A (lasts step.ended tt args ws)) (fact 𝓤 (Said r)))

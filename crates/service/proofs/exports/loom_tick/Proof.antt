@@ -42,9 +42,9 @@ use denote.Triple.Table.{entered, cited}
 use denote.Triple.Walked.{says, Stays, stay-ref, stay-none, gave-slice, walkOf, goes-none, goes-ref, goes-gave-slice, Walks, ends-at, walked, walk-meets}
 use denote.Exit.{yes}
 use Rattle.host.specs.Calls.{ticks}
-use Rattle.host.specs.Tick.{tickSays}
+use Rattle.host.specs.Tick.{tickSays, tickList}
 use Rattle.service.specs.Memory.{hostFrom}
-use Rattle.service.specs.Calls.{callLeft, tickAnswer, listLeft}
+use Rattle.service.specs.Calls.{callLeft, tickNumber}
 use Rattle.service.specs.declared.HostMemory.{HostMemory}
 use Rattle.service.specs.declared.HostLeft.{HostLeft}
 use Rattle.service.proofs.HostMemory as HostMemory-row
@@ -108,7 +108,7 @@ module _ {M : Type 1} (𝓤 : URA M) (H : Heap 𝓤) (A : Atoms 𝓤) (W : Given
 
   -- what it ensures of its result and of the last list
   abbrev Said : HostLeft → List ℕ → Type 0
-  Said r zs = (r .memory ≡ callLeft h (record { 0 = u }) (ticks (length ys))) × (((r .answer) ≡ tickAnswer h (tickSays (hostFrom h) u (length ys))) × (zs ≡ listLeft h u ys))
+  Said r zs = (r .memory ≡ callLeft h (record { 0 = u }) (ticks (length ys))) × (((r .answer) ≡ tickNumber (tickSays (hostFrom h) u (length ys))) × (zs ≡ tickList (hostFrom h) u ys))
 
   exits : (r : HostLeft) (v : Val) (zs : List ℕ) → Said r zs → length zs ≡ length ys → Is u64 (r .answer) (v ∷ []) → ent 𝓤 (⋆ 𝓤 H A (‵ (fobs γ (HostMemory-row.the-row .coded .code (r .memory))) ∷ ‵ (fbor κ (Body (mem HostMemory-row.the-row) b o γ)) ∷ ‵ (flft κ q) ∷ (‵ (flft κ′ q′) ⊛ ‵ ftrue) ∷ ‵ (finally u8 γ′ zs) ∷ [])) (Post v)
   exits r v zs e l is =

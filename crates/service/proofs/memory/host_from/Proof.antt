@@ -1,20 +1,18 @@
--- The history is filled place by place, and each place is tested. Assumes nothing.
+-- The history is filled place by place. Assumes nothing.
 use borrow.Author.Needs.{needs}
 use native.Mathlib.Omega.{arith}
-use mathlib.Core.Path.{_≡_, refl, sym, ap, _∙_}
-use mathlib.Core.Bool.{Bool, _&&_}
+use mathlib.Core.Path.{_≡_, sym, ap, _∙_}
 use mathlib.Core.List.{List, map}
 use Prim.Native.Nat.{ℕ, _+_, _-_, _≤_}
 use borrow.Author.Tests.{not-false}
-use lib.ListN.{length, length-map, take, drop, set, getD}
-use Rattle.lists.specs.Lists.{all, pad}
-use Rattle.lists.proofs.Loops.{left-next, left-none, all-turn, all-end}
+use lib.ListN.{length, length-map, take, set, getD}
+use Rattle.lists.specs.Lists.{pad}
 use Rattle.host.specs.declared.Held.{Held}
 use Rattle.host.specs.State.{noHeld}
+use Rattle.host.proofs.Blanks.{only-held}
 use Rattle.service.specs.declared.HeldMemory.{HeldMemory}
-use Rattle.service.specs.Memory.{heldFrom, heldFits}
+use Rattle.service.specs.Memory.{heldFrom}
 use Rattle.service.proofs.Converts.{fill-next, fill-blank, fill-all}
-use Rattle.service.proofs.Forms.{zero-place}
 use Rattle.service.proofs.memory.host_from.Statement.{statement}
 use Rattle.service.proofs.memory.host_from.Tie as tie
 
@@ -22,17 +20,16 @@ abbrev none : HeldMemory
 none = record { stamp = record { 0 = 0 }; image = 0; source = 0; kind = 0; share = 0 }
 
 abbrev Inv-loop : tie.InvT-loop
-Inv-loop memory places history₀ fits₀ i₀ history fits i =
-    (i ≤ 32) × (history ≡ pad 32 noHeld (map heldFrom (take i places))) × ((fits && all heldFits (drop i places)) ≡ all heldFits places)
+Inv-loop memory places history₀ i₀ history i = (i ≤ 32) × (history ≡ pad 32 noHeld (map heldFrom (take i places)))
 
 abbrev μ-loop : tie.MeasureT-loop
-μ-loop memory places history₀ fits₀ i₀ history fits i = 32 - i
+μ-loop memory places history₀ i₀ history i = 32 - i
 
 no-held-requires : tie.Need-no-held-requires Inv-loop μ-loop
 no-held-requires c κs = search needs
 
 loop-holds : tie.Need-loop-holds Inv-loop μ-loop
-loop-holds c = (search needs, rw (c .no-held .ensures), refl)
+loop-holds c = (search needs, rw (c .no-held .ensures))
 
 mul-e : tie.Need-mul-e Inv-loop μ-loop
 mul-e c = search needs
@@ -43,8 +40,8 @@ array-copy-out-e c = search needs
 add-i : tie.Need-add-i Inv-loop μ-loop
 add-i c = search needs
 
-is-zero-requires : tie.Need-is-zero-requires Inv-loop μ-loop
-is-zero-requires c κs = search needs
+is-unused-requires : tie.Need-is-unused-requires Inv-loop μ-loop
+is-unused-requires c κs = search needs
 
 held-from-requires : tie.Need-held-from-requires Inv-loop μ-loop
 held-from-requires c κs = search needs
@@ -55,22 +52,18 @@ mul-history c = search needs
 array-set-from-history : tie.Need-array-set-from-history Inv-loop μ-loop
 array-set-from-history c = search needs
 
-held-fits-requires : tie.Need-held-fits-requires Inv-loop μ-loop
-held-fits-requires c κs = search needs
-
 loop-less : tie.Need-loop-less Inv-loop μ-loop
 loop-less c = search needs
 
 loop-again : tie.Need-loop-again Inv-loop μ-loop
 loop-again c =
-    let s = c .before .before .before .before .before .before .loop in
-    let l : List HeldMemory = c .before .before .before .before .before .before .before .before .before .args .memory .history in
-    let n : length l ≡ 32 = sym (length-map l _) ∙ c .before .before .before .before .before .before .before .before .before .good .0 .1 .1 .1 .1 .1 .1 .1 .1 .0 .1 .0 .1 in (
+    let s = c .before .before .before .before .before .loop in
+    let l : List HeldMemory = c .before .before .before .before .before .before .before .before .args .memory .history in
+    let n : length l ≡ 32 = sym (length-map l _) ∙ c .before .before .before .before .before .before .before .before .good .0 .1 .1 .1 .1 .1 .1 .1 .1 .0 .1 .0 .1 in (
       search needs,
-      ap (λ (t : List Held). set t (s .i) (c .before .held-from .result)) (s .inv .1)
-          ∙ ap (λ (x : Held). set (pad 32 noHeld (map heldFrom (take (s .i) l))) (s .i) x) (c .before .held-from .ensures)
+      ap (λ (t : List Held). set t (s .i) (c .held-from .result)) (s .inv .1)
+          ∙ ap (λ (x : Held). set (pad 32 noHeld (map heldFrom (take (s .i) l))) (s .i) x) (c .held-from .ensures)
           ∙ fill-next heldFrom 32 noHeld l none (s .i) (omega arith) (omega arith),
-      all-turn heldFits (s .fits) (c .held-fits .result) (left-next l none (s .i) (omega arith)) (s .inv .2) (c .held-fits .ensures),
     )
 
 loop-less-2 : tie.Need-loop-less-2 Inv-loop μ-loop
@@ -81,13 +74,8 @@ loop-again-2 c =
     let s = c .before .before .before .before .loop in
     let l : List HeldMemory = c .before .before .before .before .before .before .before .args .memory .history in
     let n : length l ≡ 32 = sym (length-map l _) ∙ c .before .before .before .before .before .before .before .good .0 .1 .1 .1 .1 .1 .1 .1 .1 .0 .1 .0 .1 in
-    let zero = zero-place (getD l (s .i) none) (sym (c .before .is-zero .ensures) ∙ not-false _ (c .if1 .left)) in (
-      search needs,
-      s .inv .1 ∙ fill-blank heldFrom 32 noHeld l none (s .i) (omega arith) (omega arith) (zero .0),
-      ap (λ (b : Bool). s .fits && (b && all heldFits (drop (s .i + 1) l))) (sym (zero .1))
-          ∙ ap (λ (t : List HeldMemory). s .fits && all heldFits t) (sym (left-next l none (s .i) (omega arith)))
-          ∙ s .inv .2,
-    )
+    let unused = only-held (heldFrom (getD l (s .i) none)) (sym (c .before .is-unused .ensures) ∙ not-false _ (c .if1 .left)) in
+    (search needs, s .inv .1 ∙ fill-blank heldFrom 32 noHeld l none (s .i) (omega arith) (omega arith) unused)
 
 own-from-requires : tie.Need-own-from-requires Inv-loop μ-loop
 own-from-requires c κs = search needs
@@ -97,7 +85,7 @@ returns c =
     let s = c .before .before .before .before .before .loop in
     let l : List HeldMemory = c .before .before .before .before .before .before .before .before .args .memory .history in
     let n : length l ≡ 32 = sym (length-map l _) ∙ c .before .before .before .before .before .before .before .before .good .0 .1 .1 .1 .1 .1 .1 .1 .1 .0 .1 .0 .1 in
-    (all-end heldFits (s .fits) (left-none l (s .i) (omega arith)) (s .inv .2), rw (c .own-from .ensures, s .inv .1 ∙ fill-all heldFrom 32 noHeld l (s .i) (omega arith) (omega arith)))
+    rw (c .own-from .ensures, s .inv .1 ∙ fill-all heldFrom 32 noHeld l (s .i) (omega arith) (omega arith))
 
 pub host-from-spec : {M : Type 1} → statement M
 host-from-spec =
@@ -110,11 +98,10 @@ host-from-spec =
     mul-e
     array-copy-out-e
     add-i
-    is-zero-requires
+    is-unused-requires
     held-from-requires
     mul-history
     array-set-from-history
-    held-fits-requires
     loop-less
     loop-again
     loop-less-2
