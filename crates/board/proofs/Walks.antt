@@ -1,5 +1,5 @@
--- A walk that tests that a list rises, starts before its first element, and stops where one does not follow the last. Assumes nothing.
-use mathlib.Core.Path.{_≡_, sym, ap, _∙_}
+-- A walk that tests that a list rises, and starts before its first element: what is left decides. Assumes nothing.
+use mathlib.Core.Path.{_≡_}
 use mathlib.Core.Bool.{Bool, true, false, _&&_, _||_}
 use mathlib.Core.List.{List, [], _∷_}
 use Prim.Native.Nat.{ℕ, _+_}
@@ -15,20 +15,15 @@ module _ {A : Type 0} (r : A → A → Bool) where
   risesAfter true w l = rising r l
   risesAfter false w l = risingFrom r w l
 
-  module _ {left : List A} {t : Bool} where
-    -- b: whether this element is the first, or follows the last
-    turn : {rest : List A} {x : A} (first b : Bool) (w : A) → left ≡ x ∷ rest → risesAfter first w left ≡ t → (first || r w x) ≡ b → (b && risingFrom r x rest) ≡ t
-    turn true b w s inv e = rw (sym e) (rw s at inv)
-    turn false b w s inv e = rising-turn r true b w s inv (sym e)
+  turn : {left rest : List A} {x : A} {t : Bool} (first b : Bool) (w : A) → left ≡ x ∷ rest → risesAfter first w left ≡ t → b ≡ (first || r w x) → (b && risingFrom r x rest) ≡ t
+  turn true b w s inv e = rw e (rw s at inv)
+  turn false b w s inv e = rising-turn r true b w s inv e
 
-    pub rises-on : {rest : List A} {x : A} (i : ℕ) (w : A) → left ≡ x ∷ rest → risesAfter (eqb i 0) w left ≡ t → (eqb i 0 || r w x) ≡ true
-        → risesAfter (eqb (i + 1) 0) x rest ≡ t
-    rises-on {rest = rest} {x = x} i w s inv e =
-        ap (λ (z : Bool). risesAfter z x rest) (ne-eqb (i + 1) 0 (λ q. omega arith)) ∙ turn (eqb i 0) true w s inv e
+  -- b: this element, x, is the first or follows the last
+  pub rises-turn : {left rest : List A} {x : A} {t : Bool} (i : ℕ) (b : Bool) (w : A) → left ≡ x ∷ rest → risesAfter (eqb i 0) w left ≡ t → b ≡ (eqb i 0 || r w x)
+      → (b && risesAfter (eqb (i + 1) 0) x rest) ≡ t
+  rises-turn i b w s inv e = rw (ne-eqb (i + 1) 0 (λ q. omega arith)) (turn (eqb i 0) b w s inv e)
 
-    pub rises-stop : {rest : List A} {x : A} (first : Bool) (w : A) → left ≡ x ∷ rest → risesAfter first w left ≡ t → (first || r w x) ≡ false → t ≡ false
-    rises-stop first w s inv e = sym (turn first false w s inv e)
-
-    pub rises-end : (first : Bool) (w : A) → left ≡ [] → risesAfter first w left ≡ t → t ≡ true
-    rises-end true w s inv = sym (rw s at inv)
-    rises-end false w s inv = sym (rising-end r true w s inv)
+  pub rises-end : {left : List A} {t : Bool} (first : Bool) (w : A) → left ≡ [] → risesAfter first w left ≡ t → true ≡ t
+  rises-end true w s inv = rw s at inv
+  rises-end false w s inv = rising-end r true w s inv
