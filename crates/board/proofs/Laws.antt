@@ -1,5 +1,5 @@
 -- What callers use of a board: soundness is kept, and what an order does to each image. Assumes nothing.
-use mathlib.Core.Path.{_≡_, refl, sym, ap, ap₂, _∙_, subst}
+use mathlib.Core.Path.{_≡_, refl, sym, ap, _∙_, subst}
 use mathlib.Core.Bool.{Bool, true, false, not, cond, true≢false}
 use mathlib.Core.List.{List, [], _∷_}
 use Prim.Native.Nat.{ℕ, zero, suc, _-_, _≤_, _<_}
@@ -19,10 +19,7 @@ use Rattle.board.specs.declared.Stand.{Stand}
 use Rattle.board.specs.declared.Stand.the-variants.{Absent, Offered, Halted}
 use Rattle.board.specs.declared.Place.{Place}
 use Rattle.board.specs.declared.Board.{Board}
-use Rattle.board.specs.declared.Answer.{Answer}
-use Rattle.board.specs.declared.Answer.the-variants.{Done, Unsound, OutOfRange}
-use Rattle.board.specs.declared.Applied.{Applied}
-use Rattle.board.specs.Board.{images, standFits, placeFits, isAbsent, isBlank, blank, before, sound, outcome, stands, settle, imagesAfter, holding, boardTests, boardRefusal, boardAfter, says}
+use Rattle.board.specs.Board.{images, standFits, placeFits, isAbsent, isBlank, blank, before, sound, outcome, stands, settle, imagesAfter, holding, boardTests, boardRefusal, boardAfter}
 use Rattle.board.proofs.Boards.{sound-is}
 use Rattle.board.proofs.Settling.{settle-stands, settle-rises, settle-fit, settle-short}
 

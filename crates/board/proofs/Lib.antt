@@ -2,6 +2,7 @@
 mod Cells
 mod Placing
 mod Boards
+mod Walks
 mod Makings
 mod Settling
 pub mod Laws

@@ -3,9 +3,11 @@ use crate::Board;
 use crate::Place;
 use crate::Stand;
 ghost use mathlib.Core.Path.{_≡_};
+ghost use mathlib.Core.List.{[], _∷_};
 ghost use Prim.Native.Nat.{_≤_};
 ghost use lib.ListN.{take, drop};
 ghost use Rattle.lists.specs.Lists.{all, rising};
+ghost use Rattle.lists.specs.Tests.{allOf};
 ghost use Rattle.board.specs.Board.{sound, placeFits, isAbsent, isBlank, before};
 
 pub(crate) fn is_sound(board: Board) -> bool
@@ -16,21 +18,34 @@ pub(crate) fn is_sound(board: Board) -> bool
     }
     let count = board.count;
     let places = board.places;
-    all_fit(places, count) & is_rising(places, count) & rest_blank(places, count)
+    are_sound(places, count)
 }
 
-fn all_fit(places: [Place; 16], count: usize) -> bool
+// One walk, which stops at the first place that fails.
+fn are_sound(places: [Place; 16], count: usize) -> bool
     requires { ⌜ count ≤ 16 ⌝ }
-    ensures { λ r. ⌜ r ≡ all placeFits (take count places) ⌝ }
+    ensures { λ r. ⌜ r ≡ allOf (all placeFits (take count places) ∷ rising before (take count places) ∷ all isBlank (drop count places) ∷ []) ⌝ }
 {
-    let mut ok = true;
+    let mut last = places[0];
     let mut i: usize = 0;
     while i < count {
         let p = places[i];
-        ok = ok & fits(p);
+        if !fits(p) {
+            return false;
+        }
+        if !((i == 0) | (last.image < p.image)) {
+            return false;
+        }
+        last = p;
         i += 1;
     }
-    ok
+    while i < 16 {
+        if !is_blank(places[i]) {
+            return false;
+        }
+        i += 1;
+    }
+    true
 }
 
 fn fits(p: Place) -> bool
@@ -42,36 +57,6 @@ fn fits(p: Place) -> bool
         Stand::Offered(share) => (1 <= share) & (share <= 100),
         Stand::Halted(share) => share <= 100,
     }
-}
-
-fn is_rising(places: [Place; 16], count: usize) -> bool
-    requires { ⌜ count ≤ 16 ⌝ }
-    ensures { λ r. ⌜ r ≡ rising before (take count places) ⌝ }
-{
-    let mut ok = true;
-    let mut last = places[0];
-    let mut i: usize = 1;
-    while i < count {
-        let p = places[i];
-        ok = ok & (last.image < p.image);
-        last = p;
-        i += 1;
-    }
-    ok
-}
-
-fn rest_blank(places: [Place; 16], count: usize) -> bool
-    requires { ⌜ count ≤ 16 ⌝ }
-    ensures { λ r. ⌜ r ≡ all isBlank (drop count places) ⌝ }
-{
-    let mut ok = true;
-    let mut i = count;
-    while i < 16 {
-        let p = places[i];
-        ok = ok & is_blank(p);
-        i += 1;
-    }
-    ok
 }
 
 fn is_blank(p: Place) -> bool
