@@ -27,6 +27,7 @@ use Rattle.host.proofs.Facts.{SoundIs, sound-is}
 use Rattle.service.specs.declared.HeldMemory.{HeldMemory}
 use Rattle.service.specs.declared.HostMemory.{HostMemory}
 use Rattle.service.specs.Memory.{formed, zeros, orderFrom, heldFrom, ownFrom, hostFrom, heldMemory, hostMemory}
+use Rattle.service.specs.Inside.{unusedIn, none}
 use Rattle.service.proofs.Forms.{by-form, from-fits, from-blank}
 
 -- ---- a place of a sound state's history holds an order in range, or none
@@ -101,6 +102,10 @@ place-there x e = go (or-cases (shareFits (heldFrom x .order)) (isNoHeld (heldFr
     go (inr f) =
         none-there (x .stamp) (x .image) (x .source) (x .kind) (x .share)
         (sym (from-blank (x .kind) (x .image) (x .share)) ∙ and-right (eqb (x .stamp .0) 0 && eqb (x .source) 0) (sameOrder (heldFrom x .order) (Publish 0 0)) f)
+
+-- and an unused place is all zero
+pub only-none : (x : HeldMemory) → unusedIn x ≡ true → x ≡ none
+only-none x e = sym (place-there x (or-true-right (shareFits (heldFrom x .order)) (isNoHeld (heldFrom x)) e)) ∙ ap heldMemory (only-held (heldFrom x) e)
 
 places-there : (l : List HeldMemory) → all holds (map heldFrom l) ≡ true → map heldMemory (map heldFrom l) ≡ l
 places-there [] e = refl

@@ -1,6 +1,7 @@
 -- What the proofs of several functions use, and the laws for callers: Back, Through, One.
 mod Forms
 mod Converts
+mod Maps
 mod Lefts
 pub mod Back
 mod Still

@@ -1,4 +1,11 @@
 -- Notions that only private contracts cite. Assumes nothing.
+use mathlib.Core.Bool.{Bool}
+use Prim.Native.Nat.{ℕ}
+use Rattle.host.specs.declared.Held.{Held}
+use Rattle.host.specs.State.{fits, before, ownStarted, isNoHeld, sameName}
+use Rattle.host.specs.Tick.{due}
+use Rattle.service.specs.declared.HeldMemory.{HeldMemory}
+use Rattle.service.specs.Memory.{heldFrom}
 use Rattle.clock.specs.declared.Reading.{Reading}
 use Rattle.service.specs.declared.HostMemory.{HostMemory}
 
@@ -17,3 +24,27 @@ memoryAt f u =
       rules = f .rules;
       d = f .d;
     }
+
+-- ---- the host's tests of the order that stands in a place
+
+abbrev pub fitsIn : ℕ → HeldMemory → Bool
+fitsIn hosts e = fits hosts (heldFrom e)
+
+abbrev pub beforeIn : HeldMemory → HeldMemory → Bool
+beforeIn x e = before (heldFrom x) (heldFrom e)
+
+abbrev pub startedIn : ℕ → ℕ → ℕ → HeldMemory → Bool
+startedIn own started newest e = ownStarted own started newest (heldFrom e)
+
+abbrev pub unusedIn : HeldMemory → Bool
+unusedIn e = isNoHeld (heldFrom e)
+
+abbrev pub namedIn : Held → HeldMemory → Bool
+namedIn x e = sameName x (heldFrom e)
+
+abbrev pub dueIn : ℕ → ℕ → HeldMemory → Bool
+dueIn Δ u e = due Δ u (heldFrom e)
+
+-- an unused place
+abbrev pub none : HeldMemory
+none = record { stamp = record { 0 = 0 }; image = 0; source = 0; kind = 0; share = 0 }

@@ -6,6 +6,7 @@ mod exports;
 mod memory;
 mod messages;
 mod orders_in;
+mod places;
 mod plans;
 
 use clock::Reading;

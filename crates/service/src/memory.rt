@@ -1,14 +1,14 @@
 // A host's state from its flat memory, and back.
 use crate::HeldMemory;
 use crate::HostMemory;
-use crate::orders_in::is_zero;
 use crate::orders_in::order_from;
+use crate::places::is_unused;
 use clock::Reading;
 use host::Held;
 use host::Host;
 use orders::Order;
 ghost use mathlib.Core.Path.{_≡_};
-ghost use Rattle.host.specs.State.{noHeld, isNoHeld};
+ghost use Rattle.host.specs.State.{noHeld};
 ghost use Rattle.service.specs.Memory.{heldFrom, ownFrom, hostFrom, heldMemory, hostMemory};
 ghost use Rattle.service.specs.Inside.{memoryAt};
 
@@ -62,13 +62,6 @@ fn no_held() -> Held
         source: 0,
         order: Order::Publish { image: 0, share: 0 },
     }
-}
-
-// Whether a place is unused.
-fn is_unused(e: HeldMemory) -> bool
-    ensures { λ r. ⌜ r ≡ isNoHeld (heldFrom e) ⌝ }
-{
-    (e.stamp.0 == 0) & (e.source == 0) & is_zero(e.kind, e.image, e.share)
 }
 
 fn held_from(e: HeldMemory) -> Held

@@ -12,12 +12,11 @@ use Rattle.host.specs.State.{noHeld}
 use Rattle.host.proofs.Blanks.{only-held}
 use Rattle.service.specs.declared.HeldMemory.{HeldMemory}
 use Rattle.service.specs.Memory.{heldFrom}
+use Rattle.service.specs.Inside.{none}
 use Rattle.service.proofs.Converts.{fill-next, fill-blank, fill-all}
 use Rattle.service.proofs.memory.host_from.Statement.{statement}
 use Rattle.service.proofs.memory.host_from.Tie as tie
 
-abbrev none : HeldMemory
-none = record { stamp = record { 0 = 0 }; image = 0; source = 0; kind = 0; share = 0 }
 
 abbrev Inv-loop : tie.InvT-loop
 Inv-loop memory places history₀ i₀ history i = (i ≤ 32) × (history ≡ pad 32 noHeld (map heldFrom (take i places)))

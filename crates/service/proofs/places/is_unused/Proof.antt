@@ -2,8 +2,8 @@
 use borrow.Author.Needs.{needs}
 use mathlib.Core.Path.{_≡_, sym, _∙_}
 use Rattle.service.proofs.Forms.{from-blank}
-use Rattle.service.proofs.memory.is_unused.Statement.{statement}
-use Rattle.service.proofs.memory.is_unused.Tie as tie
+use Rattle.service.proofs.places.is_unused.Statement.{statement}
+use Rattle.service.proofs.places.is_unused.Tie as tie
 
 is-zero-requires : tie.Need-is-zero-requires
 is-zero-requires c κs = search needs
