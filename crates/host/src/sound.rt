@@ -18,6 +18,7 @@ pub fn is_sound(host: Host) -> bool
     ensures { λ r. ⌜ r ≡ sound host ⌝ }
 {
     let plan = host.plan;
+    let last = host.last;
     let starts = host.starts;
     let started = host.started;
     let held = host.held;
@@ -27,7 +28,7 @@ pub fn is_sound(host: Host) -> bool
         d: host.d,
         bound: host.bound,
         own: host.own,
-        last: host.last,
+        last,
         started,
         starts,
         held,
@@ -36,8 +37,8 @@ pub fn is_sound(host: Host) -> bool
         return false;
     }
     let history = host.history;
-    let last = newest(starts, started);
-    is_history(history, held, plan.hosts, host.own, started, last)
+    let last_start = newest(starts, started);
+    is_history(history, held, plan.hosts, host.own, started, last_start)
 }
 
 // Whether all of a state but its history is sound: the tests in the order in which the build paper lists them.
