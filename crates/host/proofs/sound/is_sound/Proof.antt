@@ -1,31 +1,36 @@
+-- The frame is the state's, and says the same of it; then the history decides. Assumes nothing.
 use borrow.Author.Needs.{needs}
+use mathlib.Core.Path.{_≡_, sym, ap, _∙_}
+use mathlib.Core.Bool.{Bool, true, _&&_}
+use borrow.Author.Tests.{not-true, not-false}
+use Rattle.lists.specs.Tests.{allOf}
+use Rattle.host.specs.State.{frameTests, historyTests, framed}
+use Rattle.host.proofs.Facts.{framed-started}
 use Rattle.host.proofs.sound.is_sound.Statement.{statement}
 use Rattle.host.proofs.sound.is_sound.Tie as tie
-use Rattle.host.proofs.sound.is_sound.Reads as reads
-use Rattle.host.proofs.sound.is_sound.Lts as lts
-use Rattle.host.proofs.history.is_history.Reads as is-history-reads
-use Rattle.host.proofs.sound.is_framed.Reads as is-framed-reads
-use Rattle.host.proofs.starts.newest.Reads as newest-reads
 
--- src/sound.rt:36:9
 is-framed-requires : tie.Need-is-framed-requires
 is-framed-requires c κs = search needs
 
--- src/sound.rt:37:9
 returns : tie.Need-returns
-returns c = ?
+unfolding frameTests
+returns c =
+    let h = c .before .before .before .before .before .args .host in
+    ap (λ (t : Bool). t && allOf (historyTests h)) (sym (not-true _ (c .if1 .taken)) ∙ c .before .is-framed .ensures)
 
--- src/sound.rt:40:9
 newest-requires : tie.Need-newest-requires
-newest-requires c κs = ?
+unfolding frameTests
+newest-requires c κs = framed-started (c .before .before .before .before .before .before .args .host) (sym (c .before .before .is-framed .ensures) ∙ not-false _ (c .before .if1 .left))
 
--- src/sound.rt:41:5
 is-history-requires : tie.Need-is-history-requires
 is-history-requires c κs = search needs
 
--- src/sound.rt:17:1
 returns-2 : tie.Need-returns-2
-returns-2 c = ?
+unfolding frameTests historyTests
+returns-2 c =
+    let h = c .before .before .before .before .before .before .before .before .args .host in
+    let whole : framed h ≡ true = sym (c .before .before .before .before .is-framed .ensures) ∙ not-false _ (c .before .before .before .if1 .left) in
+    rw (c .before .newest .ensures) at (c .is-history .ensures) ∙ sym (ap (λ (t : Bool). t && allOf (historyTests h)) whole)
 
 pub is-sound-spec : {M : Type 1} → statement M
 is-sound-spec =
