@@ -6,7 +6,7 @@ use lib.Count.{ones}
 use Rattle.lists.specs.Tests.{allOf, anyOf}
 use Rattle.lists.specs.Searches.{some, each, largest, least}
 use Rattle.network.specs.Network.{inRange, same, badLink, badLinks, has, survives, via, within, distance, farthest, diameter, worstLinks, worst, bound, window, planTests, planRefusal}
-use Rattle.host.specs.State.{soundTests}
+use Rattle.host.specs.State.{frameTests, historyTests}
 use Rattle.board.specs.Board as board
 use Rattle.board.specs.Board.{imagesAfter, boardTests}
 use Rattle.board.specs.declared.Stand.the-variants.{Offered, Halted}
@@ -26,7 +26,7 @@ use Rattle.diffusion.proofs.Demand3.{demand-3}
 case-computed : (planRefusal casePlan ≡ 0) × (keeps casePlan (fresh casePlan 1) called caseStory ≡ true)
     × (map (λ p. log (ours casePlan) caseStory p 40) (0 ∷ 1 ∷ 2 ∷ []) ≡ ((28, halt) ∷ []) ∷ ((28, halt) ∷ []) ∷ ((28, halt) ∷ []) ∷ [])
     × (map (λ p. boardOf (ours casePlan) caseStory (seven (Offered 50)) p 40) (0 ∷ 1 ∷ 2 ∷ []) ≡ seven (Halted 50) ∷ seven (Halted 50) ∷ seven (Halted 50) ∷ [])
-unfolding boardBy board.sound imagesAfter boardTests keeps roomy keepsOthers keepsPremises implies sameCopy hands sentBy sent eachHanded joins sentAt faultTests closeTest roomTest wasSent arrivesTest isHanded unfaulty kept noLossTest log before run soundTests setOf startTests receiveTests tickTests allOf anyOf some each largest least has inRange same badLink badLinks survives via within distance farthest diameter worstLinks worst bound window planTests ones
+unfolding boardBy board.sound imagesAfter boardTests keeps roomy keepsOthers keepsPremises implies sameCopy hands sentBy sent eachHanded joins sentAt faultTests closeTest roomTest wasSent arrivesTest isHanded unfaulty kept noLossTest log before run frameTests historyTests setOf startTests receiveTests tickTests allOf anyOf some each largest least has inRange same badLink badLinks survives via within distance farthest diameter worstLinks worst bound window planTests ones
 case-computed = (refl, refl, refl, refl)
 
 pub case-premises : Premises casePlan (ours casePlan) caseStory

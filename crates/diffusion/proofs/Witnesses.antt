@@ -19,7 +19,7 @@ use Rattle.lists.proofs.TestLaws.{all-each}
 use Rattle.orders.specs.Orders.{kindOf, imageOf}
 use Rattle.orders.specs.declared.Order.the-variants.{Publish, Halt, Resume, Withdraw}
 use Rattle.network.specs.Network.{n, inRange, same, badLink, badLinks, has, survives, via, within, distance, farthest, diameter, worstLinks, worst, bound, window, planTests, planRefusal, Survivor}
-use Rattle.host.specs.State.{soundTests}
+use Rattle.host.specs.State.{frameTests, historyTests}
 use Rattle.board.specs.Board as board
 use Rattle.board.specs.Board.{imagesAfter, boardTests}
 use Rattle.host.specs.OwnLinks.{setOf}
@@ -89,7 +89,7 @@ record Computed : Type 0 where
   well : (has 0 0 ≡ false) × (has 0 1 ≡ false)
 
 computed : Computed
-unfolding tells sameLog sameEntry listed boardBy board.sound imagesAfter boardTests partTests standTests keeps roomy keepsOthers keepsPremises implies sameCopy hands sentBy sent eachHanded joins sentAt faultTests closeTest roomTest wasSent arrivesTest isHanded unfaulty kept noLossTest Some log before run soundTests setOf startTests receiveTests tickTests allOf anyOf some each largest least has inRange same badLink badLinks survives via within distance farthest diameter worstLinks worst bound window planTests ones
+unfolding tells sameLog sameEntry listed boardBy board.sound imagesAfter boardTests partTests standTests keeps roomy keepsOthers keepsPremises implies sameCopy hands sentBy sent eachHanded joins sentAt faultTests closeTest roomTest wasSent arrivesTest isHanded unfaulty kept noLossTest Some log before run frameTests historyTests setOf startTests receiveTests tickTests allOf anyOf some each largest least has inRange same badLink badLinks survives via within distance farthest diameter worstLinks worst bound window planTests ones
 computed =
     record {
       parting = refl;

@@ -7,7 +7,7 @@ use native.Mathlib.Omega.{arith}
 use borrow.Author.Tests.{not-false, not-true, leb-true, leb-false, ltb-true, ltb-false, le-leb, lt-leb, lt-ltb, le-ltb, eqb-true, eq-eqb}
 use lib.Dec.{leb, ltb, eqb}
 use lib.ListN.{length, getD, drop}
-use Rattle.lists.specs.Tests.{firstOf}
+use Rattle.lists.specs.Tests.{allOf, firstOf}
 use Rattle.lists.specs.Lists.{all, any, rising}
 use Rattle.lists.proofs.Bools.{and-left, and-right}
 use Rattle.lists.proofs.TestLaws.{all-each, each-all, none-pass, pass-none, numbered, firstLeft, first-chain}
@@ -18,7 +18,7 @@ use Rattle.orders.specs.declared.Order.{Order}
 use Rattle.network.specs.Network as net
 use Rattle.host.specs.declared.Held.{Held}
 use Rattle.host.specs.declared.Host.{Host}
-use Rattle.host.specs.State.{noReading, isNoLink, isNoReading, isNoHeld, startsOf, heldOf, lastStart, sameName, before, earlier, fits, ownStarted, notAbove, soundTests, sound}
+use Rattle.host.specs.State.{noReading, isNoLink, isNoReading, isNoHeld, startsOf, heldOf, lastStart, sameName, before, earlier, fits, ownStarted, notAbove, frameTests, historyTests, framed, sound}
 use Rattle.host.specs.OwnLinks.{ends}
 use Rattle.host.specs.Start.{startTests, startRefusal}
 use Rattle.host.specs.Receive.{early, late, sameHeld, otherHeld, receiveTests, receiveRefusal}
@@ -44,35 +44,35 @@ pub record SoundIs (h : Host) : Type 0 where
   pub history-unused : all isNoHeld (drop (h .held) (h .history)) ≡ true
 
 pub sound-is : (h : Host) → sound h ≡ true → SoundIs h
-unfolding soundTests
+unfolding frameTests historyTests
 sound-is h e =
-    let t = all-each (soundTests h) e in
+    let t = all-each (frameTests h) (and-left (framed h) (allOf (historyTests h)) e) in
     let t5 = t .1 .1 .1 .1 .1 in
-    let t10 = t5 .1 .1 .1 .1 .1 in
+    let k = all-each (historyTests h) (and-right (framed h) (allOf (historyTests h)) e) in
     record {
       ranges = and-left (net.inRange (h .plan)) (not (net.badLinks (h .plan))) (t .0);
       links = not-true _ (and-right (net.inRange (h .plan)) (not (net.badLinks (h .plan))) (t .0));
       d-low = leb-true _ _ (t .1 .0);
       d-high = leb-true _ _ (t .1 .1 .0);
       formula = eqb-true _ _ (t .1 .1 .1 .0);
-      held = leb-true _ _ (t .1 .1 .1 .1 .0);
-      fit = t5 .0;
-      rise = t5 .1 .0;
-      own-started = t5 .1 .1 .0;
-      started = leb-true _ _ (t5 .1 .1 .1 .0);
-      starts-rise = t5 .1 .1 .1 .1 .0;
-      starts-passed = t10 .0;
-      rules = t10 .1 .0;
-      own = ltb-true _ _ (t10 .1 .1 .0);
-      links-unused = t10 .1 .1 .1 .0;
-      starts-unused = t10 .1 .1 .1 .1 .0;
-      history-unused = t10 .1 .1 .1 .1 .1 .0;
+      held = leb-true _ _ (k .0);
+      fit = k .1 .0;
+      rise = k .1 .1 .0;
+      own-started = k .1 .1 .1 .0;
+      started = leb-true _ _ (t .1 .1 .1 .1 .0);
+      starts-rise = t5 .0;
+      starts-passed = t5 .1 .0;
+      rules = t5 .1 .1 .0;
+      own = ltb-true _ _ (t5 .1 .1 .1 .0);
+      links-unused = t5 .1 .1 .1 .1 .0;
+      starts-unused = t5 .1 .1 .1 .1 .1 .0;
+      history-unused = k .1 .1 .1 .1 .0;
     }
 
-pub is-sound : (h : Host) → SoundIs h → sound h ≡ true
-unfolding soundTests
-is-sound h s =
-    each-all (soundTests h) (
+pub is-framed : (h : Host) → SoundIs h → framed h ≡ true
+unfolding frameTests
+is-framed h s =
+    each-all (frameTests h) (
       simp (s .ranges, s .links),
       (
         le-leb _ _ (s .d-low),
@@ -81,31 +81,23 @@ is-sound h s =
           (
             eq-eqb _ _ (s .formula),
             (
-              le-leb _ _ (s .held),
-              (
-                s .fit,
-                (
-                  s .rise,
-                  (
-                    s .own-started,
-                    (
-                      le-leb _ _ (s .started),
-                      (
-                        s .starts-rise,
-                        (
-                          s .starts-passed,
-                          (s .rules, (lt-ltb _ _ (s .own), (s .links-unused, (s .starts-unused, (s .history-unused, tt))))),
-                        ),
-                      ),
-                    ),
-                  ),
-                ),
-              ),
+              le-leb _ _ (s .started),
+              (s .starts-rise, (s .starts-passed, (s .rules, (lt-ltb _ _ (s .own), (s .links-unused, (s .starts-unused, tt)))))),
             ),
           ),
         ),
       ),
     )
+
+pub is-sound : (h : Host) → SoundIs h → sound h ≡ true
+unfolding historyTests
+is-sound h s =
+    rw (is-framed h s) (each-all (historyTests h) (le-leb _ _ (s .held), (s .fit, (s .rise, (s .own-started, (s .history-unused, tt))))))
+
+-- what a frame says of its starts before the history is looked at
+pub framed-started : (h : Host) → framed h ≡ true → h .started ≤ 4
+unfolding frameTests
+framed-started h e = leb-true _ _ (all-each (frameTests h) e .1 .1 .1 .1 .0)
 
 -- an order of checks of a sound state: 9 is passed, and the others stand as the code's chain of checks finds them
 pub past-sound : (h : Host) (cs : List (ℕ × Bool)) {r : ℕ} → sound h ≡ true → numbered cs ≡ true → r ≡ firstLeft 0 cs → r ≡ firstOf ((9, not (sound h)) ∷ cs)

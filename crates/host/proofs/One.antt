@@ -8,6 +8,7 @@ use Rattle.lists.proofs.One.{one-result, one-call}
 use Rattle.clock.specs.declared.Reading.{Reading}
 use Rattle.orders.specs.declared.Order.{Order}
 use Rattle.network.specs.declared.Plan.{Plan}
+use Rattle.host.specs.declared.Frame.{Frame}
 use Rattle.host.specs.declared.Held.{Held}
 use Rattle.host.specs.declared.Host.{Host}
 use Rattle.host.specs.declared.Made.{Made}
@@ -17,7 +18,7 @@ use Rattle.host.specs.declared.Refusal.{Refusal}
 use Rattle.host.specs.declared.Verdict.{Verdict}
 use Rattle.host.specs.declared.SendAnswer.{SendAnswer}
 use Rattle.host.specs.declared.TickAnswer.{TickAnswer}
-use Rattle.host.specs.State.{sound}
+use Rattle.host.specs.State.{bare, framed, sound}
 use Rattle.host.specs.Answers.{number, refusalOf, says, saysTick}
 use Rattle.host.specs.Make.{makeRefusal, makeHost}
 use Rattle.host.specs.Start.{startSays, startHost}
@@ -27,6 +28,9 @@ use Rattle.host.proofs.Numbers.{verdictBy, verdict-back, sendBy, send-b
 
 pub is-sound-one : (h : Host) (r s : Bool) → r ≡ sound h → s ≡ sound h → r ≡ s
 is-sound-one h r s = one-result
+
+pub is-framed-one : (f : Frame) (r s : Bool) → r ≡ framed (bare f) → s ≡ framed (bare f) → r ≡ s
+is-framed-one f r s = one-result
 
 pub number-of-one : (r : Refusal) (m n : ℕ) → m ≡ number r → n ≡ number r → m ≡ n
 number-of-one r m n = one-result

@@ -1,6 +1,6 @@
 -- Loops over the places of an array: that its first places rise, and that the others are unused. Assumes nothing.
 use mathlib.Core.Path.{_≡_, sym, ap, _∙_}
-use mathlib.Core.Bool.{Bool, true, false, _&&_, _||_, and-true}
+use mathlib.Core.Bool.{Bool, true, false, _&&_, _||_}
 use mathlib.Core.List.{List, [], _∷_}
 use Prim.Native.Nat.{ℕ, _+_, _≤_, _<_}
 use native.Mathlib.Omega.{arith}
@@ -8,7 +8,7 @@ use borrow.Author.Tests.{ne-eqb}
 use lib.Dec.{eqb}
 use lib.ListN.{length, drop, getD}
 use Rattle.lists.specs.Lists.{all, rising, risingFrom}
-use Rattle.lists.proofs.Loops.{left-next, left-none, all-turn, all-end, rising-turn, rising-end}
+use Rattle.lists.proofs.Loops.{left-next, left-none, all-turn, all-end}
 
 -- ---- a loop that tests that a list rises and starts before its first element: there is none before it yet
 
@@ -18,19 +18,20 @@ module _ {A : Type 0} (r : A → A → Bool) where
   risesAfter true w l = rising r l
   risesAfter false w l = risingFrom r w l
 
-  turn : {left rest : List A} {x : A} {t : Bool} (first ok b : Bool) (w : A) → left ≡ x ∷ rest → (ok && risesAfter first w left) ≡ t → b ≡ r w x
-      → ((ok && (first || b)) && risingFrom r x rest) ≡ t
-  turn true ok b w s inv e = rw (and-true ok) (rw s at inv)
-  turn false ok b w s inv e = rising-turn r ok b w s inv e
+  -- ok is what a turn finds
+  turn : {left rest : List A} {x : A} {t : Bool} (first b ok : Bool) (w : A) → left ≡ x ∷ rest → risesAfter first w left ≡ t → b ≡ r w x → (first || b) ≡ ok
+      → (ok && risingFrom r x rest) ≡ t
+  turn true b ok w s inv e q = rw (← q) (rw s at inv)
+  turn false b ok w s inv e q = rw (← q, e) (rw s at inv)
 
-  pub rises-turn : {left rest : List A} {x : A} {t : Bool} (i : ℕ) (ok b : Bool) (w : A) → left ≡ x ∷ rest → (ok && risesAfter (eqb i 0) w left) ≡ t → b ≡ r w x
-      → ((ok && (eqb i 0 || b)) && risesAfter (eqb (i + 1) 0) x rest) ≡ t
-  rises-turn {rest = rest} {x = x} i ok b w s inv e =
-      ap (λ (z : Bool). (ok && (eqb i 0 || b)) && risesAfter z x rest) (ne-eqb (i + 1) 0 (λ q. omega arith)) ∙ turn (eqb i 0) ok b w s inv e
+  pub rises-turn : {left rest : List A} {x : A} {t : Bool} (i : ℕ) (b ok : Bool) (w : A) → left ≡ x ∷ rest → risesAfter (eqb i 0) w left ≡ t → b ≡ r w x
+      → (eqb i 0 || b) ≡ ok → (ok && risesAfter (eqb (i + 1) 0) x rest) ≡ t
+  rises-turn {rest = rest} {x = x} i b ok w s inv e q =
+      ap (λ (z : Bool). ok && risesAfter z x rest) (ne-eqb (i + 1) 0 (λ q. omega arith)) ∙ turn (eqb i 0) b ok w s inv e q
 
-  pub rises-end : {left : List A} {t : Bool} (first ok : Bool) (w : A) → left ≡ [] → (ok && risesAfter first w left) ≡ t → ok ≡ t
-  rises-end true ok w s inv = sym (and-true ok) ∙ (rw s at inv)
-  rises-end false ok w s inv = rising-end r ok w s inv
+  pub rises-end : {left : List A} {t : Bool} (first : Bool) (w : A) → left ≡ [] → risesAfter first w left ≡ t → t ≡ true
+  rises-end true w s inv = sym (rw s at inv)
+  rises-end false w s inv = sym (rw s at inv)
 
 -- ---- a loop that tests every place from some place on
 

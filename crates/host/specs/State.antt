@@ -15,6 +15,7 @@ use Rattle.orders.specs.declared.Order.the-variants.{Publish}
 use Rattle.network.specs.Network.{n, m, inRange, badLinks, bound}
 use Rattle.network.specs.declared.Link.{Link}
 use Rattle.network.specs.declared.Plan.{Plan}
+use Rattle.host.specs.declared.Frame.{Frame}
 use Rattle.host.specs.declared.Held.{Held}
 use Rattle.host.specs.declared.Host.{Host}
 
@@ -73,16 +74,13 @@ notAbove u s = leb (s .0) u
 -- "Sound means: a plan clear of 1 and 2, d 1..7, Δ by its formula, held orders at most 32, in range and strictly rising by (stamp, source), none
 -- of the host's own above its last start or without one, starts strictly rising and none above the last reading, rule set 1 or 2, own number below
 -- n, unused places zero"
-unfoldable pub soundTests : Host → List Bool
-soundTests h =
+-- of all but the history
+unfoldable pub frameTests : Host → List Bool
+frameTests h =
     (inRange (h .plan) && not (badLinks (h .plan)))
     ∷ leb 1 (h .d)
     ∷ leb (h .d) 7
     ∷ eqb (h .bound) (bound (h .rules) (h .plan) (h .d))
-    ∷ leb (h .held) 32
-    ∷ all (fits (n (h .plan))) (heldOf h)
-    ∷ rising before (heldOf h)
-    ∷ all (ownStarted (h .own) (h .started) (lastStart h)) (heldOf h)
     ∷ leb (h .started) 4
     ∷ rising earlier (startsOf h)
     ∷ all (notAbove (h .last .0)) (startsOf h)
@@ -90,11 +88,39 @@ soundTests h =
     ∷ ltb (h .own) (n (h .plan))
     ∷ all isNoLink (drop (m (h .plan)) (h .plan .links))
     ∷ all isNoReading (drop (h .started) (h .starts))
+    ∷ []
+
+-- of the history
+unfoldable pub historyTests : Host → List Bool
+historyTests h =
+    leb (h .held) 32
+    ∷ all (fits (n (h .plan))) (heldOf h)
+    ∷ rising before (heldOf h)
+    ∷ all (ownStarted (h .own) (h .started) (lastStart h)) (heldOf h)
     ∷ all isNoHeld (drop (h .held) (h .history))
     ∷ []
 
+abbrev pub framed : Host → Bool
+framed h = allOf (frameTests h)
+
 abbrev pub sound : Host → Bool
-sound h = allOf (soundTests h)
+sound h = framed h && allOf (historyTests h)
+
+-- the state of a frame, with no history
+abbrev pub bare : Frame → Host
+bare f =
+    record {
+      plan = f .plan;
+      rules = f .rules;
+      d = f .d;
+      bound = f .bound;
+      own = f .own;
+      last = f .last;
+      started = f .started;
+      starts = f .starts;
+      held = f .held;
+      history = [];
+    }
 
 -- the state with these parts in place of its own; the plan, the rule set, d, Δ and the own number stay
 abbrev pub with : Host → Reading → List Reading → ℕ → List Held → ℕ → Host

@@ -9,7 +9,10 @@ use orders::share_fits;
 ghost use mathlib.Core.Path.{_≡_};
 ghost use mathlib.Core.Bool.{true};
 ghost use Prim.Native.Nat.{_+_, _≤_, _<_};
+ghost use mathlib.Core.List.{[], _∷_};
+ghost use lib.Dec.{leb};
 ghost use lib.ListN.{take, drop, length};
+ghost use Rattle.lists.specs.Tests.{allOf};
 ghost use Rattle.lists.specs.Lists.{all, any, rising, insert, pad};
 ghost use Rattle.host.specs.State.{noHeld, isNoHeld, sameName, before, fits, ownStarted};
 ghost use Rattle.host.specs.Receive.{sameHeld, otherHeld};
@@ -70,53 +73,43 @@ fn is_before(x: Held, e: Held) -> bool
     (x.stamp.0 < e.stamp.0) | ((x.stamp.0 == e.stamp.0) & (x.source < e.source))
 }
 
-// What soundness asks of the history: of those held, in range, rising, and the host's own started; and the unused places zero.
-pub(crate) struct Walked {
-    pub fit: bool,
-    pub rise: bool,
-    pub started: bool,
-    pub unused: bool,
-}
-
-// One walk over the history, for soundness.
-pub(crate) fn walk(
+// Whether a history is sound: of those held, at most 32, each in range, rising, and the host's own started; and the unused places zero.
+pub(crate) fn is_history(
     history: [Held; 32],
     held: usize,
     hosts: u8,
     own: u8,
     started: usize,
     newest: Reading,
-) -> Walked
-    requires { ⌜ held ≤ 32 ⌝ }
-    ensures { λ r. ⌜ r .fit ≡ all (fits hosts) (take held history) ⌝ }
-    ensures { λ r. ⌜ r .rise ≡ rising before (take held history) ⌝ }
-    ensures { λ r. ⌜ r .started ≡ all (ownStarted own started (newest .0)) (take held history) ⌝ }
-    ensures { λ r. ⌜ r .unused ≡ all isNoHeld (drop held history) ⌝ }
+) -> bool
+    ensures { λ r. ⌜ r ≡ allOf (leb held 32 ∷ all (fits hosts) (take held history) ∷ rising before (take held history) ∷ all (ownStarted own started (newest .0)) (take held history) ∷ all isNoHeld (drop held history) ∷ []) ⌝ }
 {
-    let mut fit = true;
-    let mut rise = true;
-    let mut own_started = true;
-    let mut unused = true;
+    if held > 32 {
+        return false;
+    }
     let mut previous = history[0];
     let mut i = 0;
     while i < held {
         let e = history[i];
-        fit = fit & is_fit(e, hosts);
-        rise = rise & ((i == 0) | is_before(previous, e));
-        own_started = own_started & is_started(e, own, started, newest);
+        if !is_fit(e, hosts) {
+            return false;
+        }
+        if !((i == 0) | is_before(previous, e)) {
+            return false;
+        }
+        if !is_started(e, own, started, newest) {
+            return false;
+        }
         previous = e;
         i += 1;
     }
     while i < 32 {
-        unused = unused & is_no_held(history[i]);
+        if !is_no_held(history[i]) {
+            return false;
+        }
         i += 1;
     }
-    Walked {
-        fit,
-        rise,
-        started: own_started,
-        unused,
-    }
+    true
 }
 
 fn is_fit(e: Held, hosts: u8) -> bool

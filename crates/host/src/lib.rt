@@ -22,6 +22,7 @@ pub use making::make;
 use network::Plan;
 use orders::Order;
 pub use receiving::after_receive;
+pub use sound::is_framed;
 pub use sound::is_sound;
 pub use starting::after_start;
 pub use ticking::after_tick;
@@ -45,6 +46,19 @@ pub struct Host {
     pub starts: [Reading; 4],
     pub held: usize,
     pub history: [Held; 32],
+}
+
+// A state but for its history.
+pub struct Frame {
+    pub plan: Plan,
+    pub rules: u8,
+    pub d: u8,
+    pub bound: u64, // Δ
+    pub own: u8,
+    pub last: Reading,
+    pub started: usize,
+    pub starts: [Reading; 4],
+    pub held: usize,
 }
 
 // Why a call was refused.

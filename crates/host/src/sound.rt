@@ -1,6 +1,7 @@
-// Which states are sound.
+// Which states are sound: all but the history, and the history.
+use crate::Frame;
 use crate::Host;
-use crate::history::walk;
+use crate::history::is_history;
 use crate::starts::newest;
 use crate::starts::starts_passed;
 use crate::starts::starts_rise;
@@ -10,40 +11,56 @@ use network::bound;
 use network::is_proper;
 use orders::is_rules;
 ghost use mathlib.Core.Path.{_≡_};
-ghost use Rattle.host.specs.State.{sound};
+ghost use Rattle.host.specs.State.{bare, framed, sound};
 
-// Whether a state is sound: the tests in the order in which the build paper lists them.
+// Whether a state is sound.
 pub fn is_sound(host: Host) -> bool
     ensures { λ r. ⌜ r ≡ sound host ⌝ }
 {
-    let held = host.held;
+    let plan = host.plan;
+    let last = host.last;
+    let starts = host.starts;
     let started = host.started;
-    if held > 32 {
+    let held = host.held;
+    let frame = Frame {
+        plan,
+        rules: host.rules,
+        d: host.d,
+        bound: host.bound,
+        own: host.own,
+        last,
+        started,
+        starts,
+        held,
+    };
+    if !is_framed(frame) {
         return false;
     }
+    let history = host.history;
+    let last_start = newest(starts, started);
+    is_history(history, held, plan.hosts, host.own, started, last_start)
+}
+
+// Whether all of a state but its history is sound: the tests in the order in which the build paper lists them.
+pub fn is_framed(frame: Frame) -> bool
+    ensures { λ r. ⌜ r ≡ framed (bare frame) ⌝ }
+{
+    let started = frame.started;
     if started > 4 {
         return false;
     }
-    let plan = host.plan;
+    let plan = frame.plan;
     let links = plan.links;
-    let starts = host.starts;
-    let history = host.history;
-    let last = newest(starts, started);
-    let walked = walk(history, held, plan.hosts, host.own, started, last);
+    let starts = frame.starts;
     is_proper(plan)
-        & (1 <= host.d)
-        & (host.d <= 7)
-        & (host.bound == bound(host.rules, plan, host.d))
-        & (held <= 32)
-        & walked.fit
-        & walked.rise
-        & walked.started
+        & (1 <= frame.d)
+        & (frame.d <= 7)
+        & (frame.bound == bound(frame.rules, plan, frame.d))
         & (started <= 4)
         & starts_rise(starts, started)
-        & starts_passed(starts, started, host.last)
-        & is_rules(host.rules)
-        & (host.own < plan.hosts)
+        & starts_passed(starts, started, frame.last)
+        & is_rules(frame.rules)
+        & (frame.own < plan.hosts)
         & links_unused(links, plan.link_count as usize)
         & starts_unused(starts, started)
-        & walked.unused
 }

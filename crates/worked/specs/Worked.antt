@@ -18,7 +18,7 @@ use Rattle.message.specs.declared.Message.{Message}
 use Rattle.message.specs.Layout.{layout}
 use Rattle.message.specs.Calls.{readOf}
 use Rattle.host.specs.declared.Held.{Held}
-use Rattle.host.specs.State.{soundTests}
+use Rattle.host.specs.State.{frameTests, historyTests}
 use Rattle.host.specs.Make.{fresh}
 use Rattle.host.specs.Receive.{receiveTests, receiveRefusal}
 
@@ -114,5 +114,5 @@ cases =
     ∷ []
 
 pub all-hold : All Holds cases
-unfolding allOf anyOf some largest least has inRange same badLink badLinks survives via within distance farthest diameter worstLinks worst bound planTests ones soundTests receiveTests layout field be valAt orderBytes first
+unfolding allOf anyOf some largest least has inRange same badLink badLinks survives via within distance farthest diameter worstLinks worst bound planTests ones frameTests historyTests receiveTests layout field be valAt orderBytes first
 all-hold = (refl, (refl, (refl, (refl, (refl, (refl, (refl, (refl, (refl, (refl, ((refl, (refl, refl)), tt)))))))))))

@@ -1,84 +1,37 @@
--- The chain of tests is the list of tests; a count too large fails its own test. Assumes nothing.
+-- The frame is the state's, and says the same of it; then the history decides. Assumes nothing.
 use borrow.Author.Needs.{needs}
-use mathlib.Core.Path.{sym}
-use borrow.Author.Tests.{lt-leb}
-use Rattle.lists.proofs.TestLaws.{all-miss, all-chain}
-use Rattle.host.specs.State.{soundTests}
+use mathlib.Core.Path.{_≡_, sym, ap, _∙_}
+use mathlib.Core.Bool.{Bool, true, _&&_}
+use borrow.Author.Tests.{not-true, not-false}
+use Rattle.lists.specs.Tests.{allOf}
+use Rattle.host.specs.State.{frameTests, historyTests, framed}
+use Rattle.host.proofs.Facts.{framed-started}
 use Rattle.host.proofs.sound.is_sound.Statement.{statement}
 use Rattle.host.proofs.sound.is_sound.Tie as tie
 
-returns : tie.Need-returns
-unfolding soundTests
-returns c = sym (all-miss (soundTests (c .before .args .host)) 4 (lt-leb _ _ (c .if1 .taken)))
+is-framed-requires : tie.Need-is-framed-requires
+is-framed-requires c κs = search needs
 
-returns-2 : tie.Need-returns-2
-unfolding soundTests
-returns-2 c = sym (all-miss (soundTests (c .before .before .args .host)) 8 (lt-leb _ _ (c .if2 .taken)))
+returns : tie.Need-returns
+unfolding frameTests
+returns c =
+    let h = c .before .before .before .before .before .args .host in
+    ap (λ (t : Bool). t && allOf (historyTests h)) (sym (not-true _ (c .if1 .taken)) ∙ c .before .is-framed .ensures)
 
 newest-requires : tie.Need-newest-requires
-newest-requires c κs = search needs
+unfolding frameTests
+newest-requires c κs = framed-started (c .before .before .before .before .before .before .args .host) (sym (c .before .before .is-framed .ensures) ∙ not-false _ (c .before .if1 .left))
 
-walk-requires : tie.Need-walk-requires
-walk-requires c κs = search needs
+is-history-requires : tie.Need-is-history-requires
+is-history-requires c κs = search needs
 
-is-proper-requires : tie.Need-is-proper-requires
-is-proper-requires c κs = search needs
-
-bound-requires : tie.Need-bound-requires
-bound-requires c κs = search needs
-
-starts-rise-requires : tie.Need-starts-rise-requires
-starts-rise-requires c κs = c .before .before .before .before .before .before .before .before .before .before .before .before .before .before .if2 .left
-
-starts-passed-requires : tie.Need-starts-passed-requires
-starts-passed-requires c κs = c .before .before .before .before .before .before .before .before .before .before .before .before .before .before .before .if2 .left
-
-is-rules-requires : tie.Need-is-rules-requires
-is-rules-requires c κs = search needs
-
-cast-links-unused : tie.Need-cast-links-unused
-cast-links-unused c = search needs
-
-links-unused-requires : tie.Need-links-unused-requires
-links-unused-requires c κs = search needs
-
-starts-unused-requires : tie.Need-starts-unused-requires
-starts-unused-requires c κs = search needs
-
-returns-3 : tie.Need-returns-3
-unfolding soundTests
-returns-3 c =
-    let walked = c .before .before .before .before .before .before .before .before .before .before .before .before .before .before .before .before .before .walk .ensures in
-    rw (
-      c .before .before .before .before .before .before .before .before .before .before .before .before .before .before .before .before .is-proper .ensures,
-      c .before .before .before .before .before .before .before .before .before .before .before .before .before .bound .ensures,
-      walked .0,
-      walked .1 .0,
-      walked .1 .1 .0,
-      walked .1 .1 .1,
-      c .before .before .before .before .before .before .before .before .before .before .before .before .before .before .before .before .before .before .newest .ensures,
-      c .before .before .before .before .before .before .before .before .starts-rise .ensures,
-      c .before .before .before .before .before .before .before .starts-passed .ensures,
-      c .before .before .before .before .before .before .is-rules .ensures,
-      c .before .before .links-unused .ensures,
-      c .before .starts-unused .ensures,
-    )
-    (all-chain _ _)
+returns-2 : tie.Need-returns-2
+unfolding frameTests historyTests
+returns-2 c =
+    let h = c .before .before .before .before .before .before .before .before .args .host in
+    let whole : framed h ≡ true = sym (c .before .before .before .before .is-framed .ensures) ∙ not-false _ (c .before .before .before .if1 .left) in
+    rw (c .before .newest .ensures) at (c .is-history .ensures) ∙ sym (ap (λ (t : Bool). t && allOf (historyTests h)) whole)
 
 pub is-sound-spec : {M : Type 1} → statement M
 is-sound-spec =
-    tie.close
-    (tie.spec
-    returns
-    returns-2
-    newest-requires
-    walk-requires
-    is-proper-requires
-    bound-requires
-    starts-rise-requires
-    starts-passed-requires
-    is-rules-requires
-    cast-links-unused
-    links-unused-requires
-    starts-unused-requires
-    returns-3)
+    tie.close (tie.spec is-framed-requires returns newest-requires is-history-requires returns-2)
