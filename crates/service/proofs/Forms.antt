@@ -1,11 +1,11 @@
 -- Numbers that are an order's, and what the order of any three numbers tells of them. Assumes nothing.
-use mathlib.Core.Path.{_≡_, refl, sym, subst}
+use mathlib.Core.Path.{_≡_, refl, sym, subst, _∙_}
 use mathlib.Core.Bool.{Bool, true, false, cond, _&&_, and-false, true≢false}
-use Prim.Native.Nat.{ℕ, _≤_, _<_}
+use Prim.Native.Nat.{ℕ, _+_, _≤_, _<_}
 use native.Mathlib.Omega.{arith}
-use borrow.Author.Tests.{leb-true, eqb-true, ne-eqb}
+use borrow.Author.Tests.{leb-true, eqb-true, eq-eqb, ne-eqb}
 use lib.Dec.{leb, eqb}
-use Rattle.lists.proofs.Bools.{and-left, and-right}
+use Rattle.lists.proofs.Bools.{false-unless, and-left, and-right}
 use Rattle.orders.specs.declared.Order.the-variants.{Publish}
 use Rattle.orders.specs.Orders.{isKind, isShare, shareFits, sameOrder, orderOf}
 use Rattle.orders.proofs.Laws.{by-kind}
@@ -55,3 +55,26 @@ module _ (kind image share : ℕ) where
       go : (b : Bool) → formed kind share ≡ b → sameOrder (cond b (orderOf kind image share) (Publish 0 (cond (zeros kind image share) 0 255))) (Publish 0 0) ≡ zeros kind image share
       go true f = by-form kind share f (λ k s. sameOrder (orderOf k image s) (Publish 0 0) ≡ zeros k image s) published refl refl refl
       go false f = none (zeros kind image share)
+
+-- ---- four numbers are zero where their sum is
+
+pub all-zero : (image source kind share : ℕ) → eqb (image + source + kind + share) 0 ≡ (eqb source 0 && zeros kind image share)
+all-zero image source kind share = go (eqb (image + source + kind + share) 0) refl
+  where
+    go : (b : Bool) → eqb (image + source + kind + share) 0 ≡ b → b ≡ (eqb source 0 && zeros kind image share)
+    go true e =
+        let none : image + source + kind + share ≡ 0 = eqb-true _ _ e in
+        let i : image ≡ 0 = omega arith in
+        let s : source ≡ 0 = omega arith in
+        let k : kind ≡ 0 = omega arith in
+        let h : share ≡ 0 = omega arith in
+        rw (i, s, k, h) refl
+    go false e =
+        sym (false-unless (eqb source 0 && zeros kind image share) (λ q.
+        let z = and-right (eqb source 0) (zeros kind image share) q in
+        let s : source ≡ 0 = eqb-true _ _ (and-left (eqb source 0) (zeros kind image share) q) in
+        let h : share ≡ 0 = eqb-true _ _ (and-right (eqb kind 0 && eqb image 0) (eqb share 0) z) in
+        let k : kind ≡ 0 = eqb-true _ _ (and-left (eqb kind 0) (eqb image 0) (and-left (eqb kind 0 && eqb image 0) (eqb share 0) z)) in
+        let i : image ≡ 0 = eqb-true _ _ (and-right (eqb kind 0) (eqb image 0) (and-left (eqb kind 0 && eqb image 0) (eqb share 0) z)) in
+        let none : image + source + kind + share ≡ 0 = omega arith in
+        true≢false (sym (eq-eqb _ _ none) ∙ e)))

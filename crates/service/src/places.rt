@@ -1,7 +1,6 @@
-// A place of a host's flat history: what the host's own tests say of the order that stands there.
+// A place of a host's flat history: what the host's own tests say of the order that stands there. Every call makes most of them at each of the 32 places, so each stops as soon as it knows.
 use crate::HeldMemory;
 use crate::orders_in::is_formed;
-use crate::orders_in::is_zero;
 use clock::Reading;
 use clock::is_stamp;
 use clock::reached;
@@ -13,27 +12,43 @@ ghost use Rattle.service.specs.Inside.{beforeIn, fitsIn, startedIn, unus
 pub(crate) fn is_fit(e: HeldMemory, hosts: u8) -> bool
     ensures { λ r. ⌜ r ≡ fitsIn hosts e ⌝ }
 {
-    is_stamp(e.stamp) & (e.source < hosts) & is_formed(e.kind, e.share)
+    if !is_stamp(e.stamp) {
+        return false;
+    }
+    if e.source >= hosts {
+        return false;
+    }
+    is_formed(e.kind, e.share)
 }
 
 // Whether one order goes before another.
 pub(crate) fn is_before(x: HeldMemory, e: HeldMemory) -> bool
     ensures { λ r. ⌜ r ≡ beforeIn x e ⌝ }
 {
-    (x.stamp.0 < e.stamp.0) | ((x.stamp.0 == e.stamp.0) & (x.source < e.source))
+    if x.stamp.0 < e.stamp.0 {
+        return true;
+    }
+    (x.stamp.0 == e.stamp.0) & (x.source < e.source)
 }
 
 // Whether it is not the host's own, or was started.
 pub(crate) fn is_started(e: HeldMemory, own: u8, started: usize, newest: Reading) -> bool
     ensures { λ r. ⌜ r ≡ startedIn own started (newest .0) e ⌝ }
 {
-    (e.source != own) | ((0 < started) & (e.stamp.0 <= newest.0))
+    if e.source != own {
+        return true;
+    }
+    (0 < started) & (e.stamp.0 <= newest.0)
 }
 
+// Whether the place is all zero.
 pub(crate) fn is_unused(e: HeldMemory) -> bool
     ensures { λ r. ⌜ r ≡ unusedIn e ⌝ }
 {
-    (e.stamp.0 == 0) & (e.source == 0) & is_zero(e.kind, e.image, e.share)
+    if e.stamp.0 != 0 {
+        return false;
+    }
+    (e.image as u64) + (e.source as u64) + (e.kind as u64) + (e.share as u64) == 0
 }
 
 // Whether the order is held under this one's name.
