@@ -2,6 +2,7 @@
 mod Forms
 mod Converts
 mod Maps
+mod Looks
 mod Lefts
 pub mod Back
 mod Still

@@ -3,6 +3,7 @@ use mathlib.Core.Bool.{Bool}
 use Prim.Native.Nat.{ℕ}
 use Rattle.host.specs.declared.Held.{Held}
 use Rattle.host.specs.State.{fits, before, ownStarted, isNoHeld, sameName}
+use Rattle.host.specs.Receive.{sameHeld, otherHeld}
 use Rattle.host.specs.Tick.{due}
 use Rattle.service.specs.declared.HeldMemory.{HeldMemory}
 use Rattle.service.specs.Memory.{heldFrom}
@@ -41,6 +42,12 @@ unusedIn e = isNoHeld (heldFrom e)
 
 abbrev pub namedIn : Held → HeldMemory → Bool
 namedIn x e = sameName x (heldFrom e)
+
+abbrev pub sameIn : Held → HeldMemory → Bool
+sameIn x e = sameHeld x (heldFrom e)
+
+abbrev pub otherIn : Held → HeldMemory → Bool
+otherIn x e = otherHeld x (heldFrom e)
 
 abbrev pub dueIn : ℕ → ℕ → HeldMemory → Bool
 dueIn Δ u e = due Δ u (heldFrom e)

@@ -8,6 +8,7 @@ mod messages;
 mod orders_in;
 mod places;
 mod plans;
+mod walks;
 
 use clock::Reading;
 use network::Plan;
