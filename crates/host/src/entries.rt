@@ -22,7 +22,7 @@ pub(crate) fn put_entry(out: &mut [u8], at: usize, e: Held)
     }
 }
 
-fn entry(e: Held) -> [u8; 16]
+pub fn entry(e: Held) -> [u8; 16]
     ensures { λ r. ⌜ r ≡ entryOf e ⌝ }
 {
     let order = e.order;

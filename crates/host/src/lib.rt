@@ -15,6 +15,7 @@ mod unused;
 
 pub use checks::number_of;
 use clock::Reading;
+pub use entries::entry;
 pub use lent::receive;
 pub use lent::start;
 pub use lent::tick;

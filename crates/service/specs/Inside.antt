@@ -1,5 +1,5 @@
 -- Notions that only private contracts cite. Assumes nothing.
-use mathlib.Core.Bool.{Bool}
+use mathlib.Core.Bool.{Bool, not}
 use Prim.Native.Nat.{ℕ}
 use Rattle.host.specs.declared.Held.{Held}
 use Rattle.host.specs.State.{fits, before, ownStarted, isNoHeld, sameName}
@@ -51,6 +51,9 @@ otherIn x e = otherHeld x (heldFrom e)
 
 abbrev pub dueIn : ℕ → ℕ → HeldMemory → Bool
 dueIn Δ u e = due Δ u (heldFrom e)
+
+abbrev pub waitsIn : ℕ → ℕ → HeldMemory → Bool
+waitsIn Δ u e = not (dueIn Δ u e)
 
 -- an unused place
 abbrev pub none : HeldMemory

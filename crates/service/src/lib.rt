@@ -2,6 +2,7 @@
 // Every byte of the memory is some field's, and any bytes are allowed: what is not the memory of a sound state is refused 9.
 mod boards;
 mod calls;
+mod changes;
 mod exports;
 mod memory;
 mod messages;

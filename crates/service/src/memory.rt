@@ -64,7 +64,7 @@ fn no_held() -> Held
     }
 }
 
-fn held_from(e: HeldMemory) -> Held
+pub(crate) fn held_from(e: HeldMemory) -> Held
     ensures { λ r. ⌜ r ≡ heldFrom e ⌝ }
 {
     let stamp = e.stamp;
