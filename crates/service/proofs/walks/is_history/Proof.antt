@@ -4,7 +4,7 @@ use borrow.Author.Needs.{needs}
 use borrow.Author.Tests.{not-true, not-false, lt-leb, le-leb}
 use native.Mathlib.Omega.{arith}
 use mathlib.Core.Path.{_≡_, refl, sym, ap, _∙_}
-use mathlib.Core.Bool.{true, false, _||_}
+use mathlib.Core.Bool.{true, false}
 use Prim.Native.Nat.{ℕ, _-_, _≤_}
 use lib.Dec.{eqb}
 use lib.ListN.{take, drop}
@@ -65,8 +65,7 @@ returns-3 c =
     let a = c .before .before .before .before .before .before .before .before .before .args in
     let s = c .before .before .before .before .before .before .loop in
     let next = first-next (a .t1) (a .held) (search needs) none (s .i) (search needs) in
-    let falls : (eqb (s .i) 0 || c .before .is-before .result) ≡ false = not-true _ (c .if3 .taken) in
-    sym (all-miss _ 2 (sym (rw falls at (rises-turn beforeIn (s .i) true (c .before .is-before .result) (s .previous) next (s .inv .2) (c .before .is-before .ensures)))))
+    sym (all-miss _ 2 (sym (rises-turn beforeIn (s .i) (c .before .is-before .result) false (s .previous) next (s .inv .2) (c .before .is-before .ensures) (not-true _ (c .if3 .taken)))))
 
 is-started-requires : tie.Need-is-started-requires Inv-loop μ-loop Inv-loop2 μ-loop2
 is-started-requires c κs = search needs
@@ -88,11 +87,10 @@ loop-again : tie.Need-loop-again Inv-loop μ-loop Inv-loop2 μ-loop2
 loop-again c =
     let a = c .before .before .before .before .before .before .before .before .before .before .before .args in
     let s = c .before .before .before .before .before .before .before .before .loop in
-    let next = first-next (a .t1) (a .held) (search needs) none (s .i) (search needs) in
-    let rises : (eqb (s .i) 0 || c .before .before .before .is-before .result) ≡ true = not-false _ (c .before .before .if3 .left) in (
+    let next = first-next (a .t1) (a .held) (search needs) none (s .i) (search needs) in (
       search needs,
       all-turn (fitsIn (a .hosts)) true true next (s .inv .1) (sym (not-false _ (c .before .before .before .before .if2 .left)) ∙ c .before .before .before .before .before .is-fit .ensures),
-      rw rises at (rises-turn beforeIn (s .i) true (c .before .before .before .is-before .result) (s .previous) next (s .inv .2) (c .before .before .before .is-before .ensures)),
+      rises-turn beforeIn (s .i) (c .before .before .before .is-before .result) true (s .previous) next (s .inv .2) (c .before .before .before .is-before .ensures) (not-false _ (c .before .before .if3 .left)),
       all-turn (startedIn (a .own) (a .started) (a .newest .0)) true true next (s .inv .3) (sym (not-false _ (c .if4 .left)) ∙ c .before .is-started .ensures),
     )
 
@@ -139,7 +137,7 @@ returns-6 c =
       (
         sym (all-end (fitsIn (a .hosts)) true end (s .inv .1)),
         (
-          sym (rises-end beforeIn (eqb (s .i) 0) true (s .previous) end (s .inv .2)),
+          rises-end beforeIn (eqb (s .i) 0) (s .previous) end (s .inv .2),
           (
             sym (all-end (startedIn (a .own) (a .started) (a .newest .0)) true end (s .inv .3)),
             (sym (places-end unusedIn none (a .t1) true (t .i) (search needs) (t .inv)), tt),
