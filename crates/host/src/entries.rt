@@ -22,7 +22,8 @@ pub(crate) fn put_entry(out: &mut [u8], at: usize, e: Held)
     }
 }
 
-fn entry(e: Held) -> [u8; 16]
+// The bytes of a held order.
+pub fn entry(e: Held) -> [u8; 16]
     ensures { λ r. ⌜ r ≡ entryOf e ⌝ }
 {
     let order = e.order;

@@ -6,8 +6,8 @@ use lib.ListN.{length, length-map}
 use Rattle.host.specs.Tick.{dueOf}
 use Rattle.host.proofs.Facts.{tick-is, is-sound}
 use Rattle.host.proofs.Fronts.{idle, none-written}
-use Rattle.host.proofs.ticking.tick_accepted.Statement.{statement}
-use Rattle.host.proofs.ticking.tick_accepted.Tie as tie
+use Rattle.host.proofs.ticking.tick_left.Statement.{statement}
+use Rattle.host.proofs.ticking.tick_left.Tie as tie
 
 is-idle-requires : tie.Need-is-idle-requires
 is-idle-requires c κs =
@@ -46,5 +46,5 @@ returns-2 c =
     let pre = c .before .before .before .before .before .before .before .before .before .before .before .pre in
     (rw (c .at-reading .ensures, pre, d .1 .0, d .1 .1 .0), (rw (pre, d .0), rw pre (d .1 .1 .1)))
 
-pub tick-accepted-spec : {M : Type 1} → statement M
-tick-accepted-spec = tie.close (tie.spec is-idle-requires later-requires returns deliver-requires at-reading-requires same-length returns-2)
+pub tick-left-spec : {M : Type 1} → statement M
+tick-left-spec = tie.close (tie.spec is-idle-requires later-requires returns deliver-requires at-reading-requires same-length returns-2)

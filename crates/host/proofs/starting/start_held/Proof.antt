@@ -4,8 +4,8 @@ use Rattle.network.proofs.Ranges.{ranges}
 use Rattle.host.proofs.Sets.{all-own}
 use Rattle.host.proofs.Facts.{start-is}
 use native.Mathlib.Omega.{arith}
-use Rattle.host.proofs.starting.start_accepted.Statement.{statement}
-use Rattle.host.proofs.starting.start_accepted.Tie as tie
+use Rattle.host.proofs.starting.start_held.Statement.{statement}
+use Rattle.host.proofs.starting.start_held.Tie as tie
 
 with-start-requires : tie.Need-with-start-requires
 with-start-requires c κs =
@@ -52,8 +52,8 @@ returns c =
       rw (c .before .before .before .before .before .before .before .before .before .pre, c .before .links-but .ensures, c .first-hop .ensures, own),
     )
 
-pub start-accepted-spec : {M : Type 1} → statement M
-start-accepted-spec =
+pub start-held-spec : {M : Type 1} → statement M
+start-held-spec =
     tie.close
     (tie.spec
     with-start-requires

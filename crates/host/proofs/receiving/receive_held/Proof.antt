@@ -3,8 +3,8 @@ use borrow.Author.Needs.{needs}
 use native.Mathlib.Omega.{arith}
 use Rattle.network.proofs.Ranges.{ranges}
 use Rattle.host.proofs.Facts.{receive-is, hop-most}
-use Rattle.host.proofs.receiving.receive_accepted.Statement.{statement}
-use Rattle.host.proofs.receiving.receive_accepted.Tie as tie
+use Rattle.host.proofs.receiving.receive_held.Statement.{statement}
+use Rattle.host.proofs.receiving.receive_held.Tie as tie
 
 with-held-requires : tie.Need-with-held-requires
 with-held-requires c κs =
@@ -39,8 +39,8 @@ returns c = (
   rw (c .before .before .before .before .before .before .before .pre, c .before .relay-links .ensures, c .relay-hop .ensures),
 )
 
-pub receive-accepted-spec : {M : Type 1} → statement M
-receive-accepted-spec =
+pub receive-held-spec : {M : Type 1} → statement M
+receive-held-spec =
     tie.close
     (tie.spec
     with-held-requires
