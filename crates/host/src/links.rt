@@ -1,7 +1,10 @@
 // A host's own links, as a set.
+use network::Link;
 use network::Plan;
 ghost use mathlib.Core.Path.{_≡_};
 ghost use mathlib.Core.Bool.{cond};
+ghost use lib.ListN.{getD};
+ghost use Rattle.network.specs.Network.{noLink};
 ghost use Rattle.host.specs.OwnLinks.{setOf, placed, ends, endsBut};
 
 // All links of the host but one; all, where no link has that number.
@@ -43,10 +46,18 @@ fn is_end_but(plan: Plan, own: u8, arrival: u8, i: u8) -> bool
 pub(crate) fn is_end(plan: Plan, own: u8, i: u8) -> bool
     ensures { λ r. ⌜ r ≡ ends plan own i ⌝ }
 {
-    let at = i as usize;
-    if at >= 12 {
-        return 0 == own;
-    }
-    let l = plan.links[at];
+    let links = plan.links;
+    let l = link_of(links, i);
     (l.a == own) | (l.b == own)
+}
+
+fn link_of(links: [Link; 12], i: u8) -> Link
+    ensures { λ r. ⌜ r ≡ getD links i noLink ⌝ }
+{
+    let at = i as usize;
+    if at < 12 {
+        links[at]
+    } else {
+        Link { a: 0, b: 0 }
+    }
 }
