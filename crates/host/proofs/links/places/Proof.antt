@@ -1,5 +1,4 @@
 -- The smaller of the two. Assumes nothing.
-use borrow.Author.Needs.{needs}
 use borrow.Author.Tests.{le-leb, lt-leb}
 use Rattle.host.proofs.links.places.Statement.{statement}
 use Rattle.host.proofs.links.places.Tie as tie

@@ -1,6 +1,6 @@
 -- A refusal says its number; else the links and the hop are those of the definition. Assumes nothing.
 use borrow.Author.Needs.{needs}
-use mathlib.Core.Path.{_≡_, sym, ap, _∙_}
+use mathlib.Core.Path.{sym, ap, _∙_}
 use Rattle.host.specs.Answers.{refusalOf}
 use Rattle.host.specs.OwnLinks.{placed}
 use Rattle.host.proofs.Numbers.{says-refused, says-sent}

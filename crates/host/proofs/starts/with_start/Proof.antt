@@ -1,10 +1,9 @@
 -- Fewer than four leave room behind them; of four the oldest goes. Assumes nothing.
 use borrow.Author.Needs.{needs}
 use native.Mathlib.Omega.{arith}
-use mathlib.Core.Path.{_≡_, sym, ap, _∙_}
+use mathlib.Core.Path.{sym, ap, _∙_}
 use mathlib.Core.List.{List}
 use Prim.Native.Nat.{_≤_}
-use lib.ListN.{length}
 use lib.Seq.{take-all}
 use Rattle.lists.specs.Lists.{pad}
 use Rattle.clock.specs.declared.Reading.{Reading}
