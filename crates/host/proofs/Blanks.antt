@@ -11,16 +11,13 @@ use Rattle.orders.specs.declared.Order.{Order}
 use Rattle.orders.specs.declared.Order.the-variants.{Publish}
 use Rattle.orders.proofs.Laws.{same-equal}
 use Rattle.host.specs.declared.Held.{Held}
-use Rattle.host.specs.State.{noReading, noHeld, isNoReading, isNoHeld}
+use Rattle.host.specs.State.{noHeld, isNoHeld}
 
 abbrev reading : ℕ → Reading
 reading k = record { 0 = k }
 
 abbrev held : ℕ → ℕ → Order → Held
 held t s o = record { stamp = reading t; source = s; order = o }
-
-pub only-reading : (s : Reading) → isNoReading s ≡ true → s ≡ noReading
-only-reading s e = ap (λ (k : ℕ). reading k) (eqb-true (s .0) 0 e)
 
 pub only-held : (e : Held) → isNoHeld e ≡ true → e ≡ noHeld
 only-held e t =

@@ -1,7 +1,6 @@
 -- What soundness and an accepted call say, each fact by its name. Assumes nothing.
-use mathlib.Core.Path.{_≡_, refl, sym, ap, _∙_}
+use mathlib.Core.Path.{_≡_, refl, ap}
 use mathlib.Core.Bool.{Bool, true, false, not, cond, _&&_}
-use mathlib.Core.List.{List, _∷_}
 use Prim.Native.Nat.{ℕ, _+_, _*_, _≤_, _<_}
 use native.Mathlib.Omega.{arith}
 use borrow.Author.Tests.{not-false, not-true, leb-true, leb-false, ltb-true, ltb-false, le-leb, lt-leb, lt-ltb, le-ltb, eqb-true, eq-eqb}
@@ -10,7 +9,7 @@ use lib.ListN.{length, getD, drop}
 use Rattle.lists.specs.Tests.{allOf, firstOf}
 use Rattle.lists.specs.Lists.{all, any, rising}
 use Rattle.lists.proofs.Bools.{and-left, and-right}
-use Rattle.lists.proofs.TestLaws.{all-each, each-all, none-pass, pass-none, numbered, firstLeft, first-chain}
+use Rattle.lists.proofs.TestLaws.{all-each, each-all, none-pass, pass-none}
 use Rattle.clock.specs.Clock.{largestReading, largestStamp}
 use Rattle.orders.specs.Orders.{shareFits}
 use Rattle.orders.specs.Rules.{isRules, hopFits}
@@ -21,7 +20,7 @@ use Rattle.host.specs.declared.Host.{Host}
 use Rattle.host.specs.State.{noReading, isNoLink, isNoReading, isNoHeld, startsOf, heldOf, lastStart, sameName, before, earlier, fits, ownStarted, notAbove, frameTests, historyTests, framed, sound}
 use Rattle.host.specs.OwnLinks.{ends}
 use Rattle.host.specs.Start.{startTests, startRefusal}
-use Rattle.host.specs.Receive.{early, late, sameHeld, otherHeld, receiveTests, receiveRefusal}
+use Rattle.host.specs.Receive.{early, late, sameHeld, otherHeld, receiveChecks, receiveTests, receiveRefusal}
 use Rattle.host.specs.Tick.{dueOf, tickTests, tickRefusal}
 
 pub record SoundIs (h : Host) : Type 0 where
@@ -93,15 +92,6 @@ pub is-sound : (h : Host) → SoundIs h → sound h ≡ true
 unfolding historyTests
 is-sound h s =
     rw (is-framed h s) (each-all (historyTests h) (le-leb _ _ (s .held), (s .fit, (s .rise, (s .own-started, (s .history-unused, tt))))))
-
--- what a frame says of its starts before the history is looked at
-pub framed-started : (h : Host) → framed h ≡ true → h .started ≤ 4
-unfolding frameTests
-framed-started h e = leb-true _ _ (all-each (frameTests h) e .1 .1 .1 .1 .0)
-
--- an order of checks of a sound state: 9 is passed, and the others stand as the code's chain of checks finds them
-pub past-sound : (h : Host) (cs : List (ℕ × Bool)) {r : ℕ} → sound h ≡ true → numbered cs ≡ true → r ≡ firstLeft 0 cs → r ≡ firstOf ((9, not (sound h)) ∷ cs)
-past-sound h cs s n e = e ∙ first-chain cs n ∙ sym (ap (λ (t : Bool). cond (not t) 9 (firstOf cs)) s)
 
 -- a start that is not refused
 pub record StartIs (h : Host) (u : ℕ) (o : Order) : Type 0 where
@@ -247,3 +237,11 @@ hop-most rules hop = go (eqb rules 2)
     go : (t : Bool) → cond t (leb 1 hop && leb hop 8) (eqb hop 0) ≡ true → hop ≤ 8
     go true e = leb-true hop 8 (and-right (leb 1 hop) (leb hop 8) e)
     go false e = let z : hop ≡ 0 = eqb-true hop 0 e in omega arith
+
+-- a copy whose tests after soundness all fail has a hop in range
+pub checked-hop : (h : Host) (u arrival hop : ℕ) (x : Held) (same other named : Bool) → firstOf (receiveChecks h u arrival hop x same other named) ≡ 0 → hop ≤ 8
+checked-hop h u arrival hop x same other named e =
+    let t = none-pass (receiveChecks h u arrival hop x same other named) refl e in
+    let stampFits : Bool = leb (x .stamp .0) largestStamp in
+    let hopIn : Bool = hopFits (h .rules) hop in
+    hop-most (h .rules) hop (and-right stampFits hopIn (and-left (stampFits && hopIn) (shareFits (x .order)) (not-false _ (t .1 .0))))

@@ -6,6 +6,7 @@ pub mod Slides
 pub mod Walks
 pub mod Inserts
 pub mod Facts
+pub mod Answered
 pub mod Writes
 pub mod Fresh
 pub mod Names

@@ -1,7 +1,8 @@
 -- The paper's numbers tell the refusals apart, and none is 0: so what an answer says tells the answer. Assumes nothing.
 use mathlib.Core.Path.{_≡_, refl, sym, ap, _∙_}
-use mathlib.Core.Bool.{Bool, false, cond}
+use mathlib.Core.Bool.{Bool, true, false, cond}
 use Prim.Native.Nat.{ℕ}
+use borrow.Author.Tests.{eqb-true}
 use lib.Dec.{eqb}
 use Rattle.host.specs.Answers.{number, refusalOf, Said, says, saidBy, SaidTick, saysTick, saidByTick, unless}
 use Rattle.host.specs.declared.Refusal.{Refusal}
@@ -55,6 +56,28 @@ says-refused r k links hop e = rw (← e, not-none r)
 
 pub tick-refused : (r : Refusal) (k count : ℕ) → number r ≡ k → saysTick (tick.Refused r) ≡ saidByTick k count
 tick-refused r k count e = rw (← e, not-none r)
+
+-- an accepted call says 0, and what it answers
+pub says-sent : (k l h links hop : ℕ) → k ≡ 0 → links ≡ l → hop ≡ h → says (send.Sent links hop) ≡ saidBy k l h
+says-sent k l h links hop e f g = rw (e, f, g)
+
+pub tick-delivered : (k count : ℕ) → k ≡ 0 → saysTick (tick.Delivered count) ≡ saidByTick k count
+tick-delivered k count e = rw e
+
+-- what is said has the refusal
+pub said-refusal : (k links hop : ℕ) → saidBy k links hop .refusal ≡ k
+said-refusal k links hop = go (eqb k 0) refl
+  where
+    go : (t : Bool) → eqb k 0 ≡ t → cond {A = Said} t (record { refusal = 0; links = links; hop = hop }) (record { refusal = k; links = 0; hop = 0 }) .refusal ≡ k
+    go true e = sym (eqb-true k 0 e)
+    go false e = refl
+
+pub tick-refusal : (k count : ℕ) → saidByTick k count .refusal ≡ k
+tick-refusal k count = go (eqb k 0) refl
+  where
+    go : (t : Bool) → eqb k 0 ≡ t → cond {A = SaidTick} t (record { refusal = 0; count = count }) (record { refusal = k; count = 0 }) .refusal ≡ k
+    go true e = sym (eqb-true k 0 e)
+    go false e = refl
 
 -- ---- the answer that says this
 

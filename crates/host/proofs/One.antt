@@ -2,15 +2,17 @@
 use mathlib.Core.Path.{_≡_, ap₂}
 use mathlib.Core.Bool.{Bool}
 use mathlib.Core.List.{List}
-use Prim.Native.Nat.{ℕ}
-use lib.ListN.{length}
-use Rattle.lists.proofs.One.{one-result, one-call}
+use Prim.Native.Nat.{ℕ, _+_, _-_}
+use lib.ListN.{length, getD, take}
+use Rattle.lists.specs.Lists.{pad}
+use Rattle.lists.proofs.One.{one-result, one-answer, one-call}
 use Rattle.clock.specs.declared.Reading.{Reading}
 use Rattle.orders.specs.declared.Order.{Order}
 use Rattle.network.specs.declared.Plan.{Plan}
 use Rattle.host.specs.declared.Frame.{Frame}
 use Rattle.host.specs.declared.Held.{Held}
 use Rattle.host.specs.declared.Host.{Host}
+use Rattle.host.specs.declared.Seen.{Seen}
 use Rattle.host.specs.declared.Made.{Made}
 use Rattle.host.specs.declared.Acted.{Acted}
 use Rattle.host.specs.declared.Ticked.{Ticked}
@@ -18,12 +20,13 @@ use Rattle.host.specs.declared.Refusal.{Refusal}
 use Rattle.host.specs.declared.Verdict.{Verdict}
 use Rattle.host.specs.declared.SendAnswer.{SendAnswer}
 use Rattle.host.specs.declared.TickAnswer.{TickAnswer}
-use Rattle.host.specs.State.{bare, framed, sound}
+use Rattle.host.specs.State.{noReading, bare, framed, sound}
+use Rattle.host.specs.Entries.{entryOf}
 use Rattle.host.specs.Answers.{number, refusalOf, says, saysTick}
 use Rattle.host.specs.Make.{makeRefusal, makeHost}
-use Rattle.host.specs.Start.{startSays, startHost}
-use Rattle.host.specs.Receive.{receiveSays, receiveHost}
-use Rattle.host.specs.Tick.{tickSays, tickHost, tickList}
+use Rattle.host.specs.Start.{withStart, startAnswer, startSays, startHost}
+use Rattle.host.specs.Receive.{receiveAnswer, receiveSays, receiveHost}
+use Rattle.host.specs.Tick.{tickAnswer, tickSays, tickHost, tickList}
 use Rattle.host.proofs.Numbers.{verdictBy, verdict-back, sendBy, send-back, tickBy, tick-back}
 
 pub is-sound-one : (h : Host) (r s : Bool) → r ≡ sound h → s ≡ sound h → r ≡ s
@@ -31,6 +34,18 @@ is-sound-one h r s = one-result
 
 pub is-framed-one : (f : Frame) (r s : Bool) → r ≡ framed (bare f) → s ≡ framed (bare f) → r ≡ s
 is-framed-one f r s = one-result
+
+pub newest-one : (l : List Reading) (k : ℕ) (r s : Reading) → r ≡ getD l (k - 1) noReading → s ≡ getD l (k - 1) noReading → r ≡ s
+newest-one l k r s = one-result
+
+pub with-start-one : (l : List Reading) (k : ℕ) (u : Reading) (r s : List Reading) → r ≡ pad 4 noReading (withStart (take k l) u) → s ≡ pad 4 noReading (withStart (take k l) u) → r ≡ s
+with-start-one l k u r s = one-result
+
+pub one-more-one : (k r s : ℕ) → r ≡ k - (k - 3) + 1 → s ≡ k - (k - 3) + 1 → r ≡ s
+one-more-one k r s = one-result
+
+pub entry-one : (e : Held) (r s : List ℕ) → r ≡ entryOf e → s ≡ entryOf e → r ≡ s
+entry-one e r s = one-result
 
 pub number-of-one : (r : Refusal) (m n : ℕ) → m ≡ number r → n ≡ number r → m ≡ n
 number-of-one r m n = one-result
@@ -41,6 +56,19 @@ pub make-one : (p : Plan) (rules own : ℕ) (r s : Made)
 make-one p rules own r s x y =
     let e = one-call refusalOf verdictBy verdict-back (r .host) (s .host) (r .answer) (s .answer) x y in
     ap₂ (λ (h : Host) (a : Verdict). record { host = h; answer = a }) (e .0) (e .1)
+
+-- ---- the answers by a frame
+
+pub start-answer-one : (f : Frame) (u : ℕ) (o : Order) (r s : SendAnswer) → says r ≡ startAnswer (bare f) u o → says s ≡ startAnswer (bare f) u o → r ≡ s
+start-answer-one f u o = one-answer says sendBy send-back
+
+pub receive-answer-one : (f : Frame) (u arrival hop : ℕ) (x : Held) (seen : Seen) (r s : SendAnswer)
+    → says r ≡ receiveAnswer (bare f) u arrival hop x (seen .same) (seen .other) (seen .named)
+    → says s ≡ receiveAnswer (bare f) u arrival hop x (seen .same) (seen .other) (seen .named) → r ≡ s
+receive-answer-one f u arrival hop x seen = one-answer says sendBy send-back
+
+pub tick-answer-one : (f : Frame) (u room count : ℕ) (r s : TickAnswer) → saysTick r ≡ tickAnswer (bare f) u room count → saysTick s ≡ tickAnswer (bare f) u room count → r ≡ s
+tick-answer-one f u room count = one-answer saysTick tickBy tick-back
 
 -- ---- over a lent state, g and k at exit
 

@@ -5,13 +5,13 @@ use mathlib.Core.Bool.{Bool, true, false, not, cond, _&&_, and-true}
 use Prim.Native.Nat.{ℕ, zero, suc, _+_, _-_, _*_, _/_, _%_, _^_, _≤_, _<_, zero-le, suc-le-suc}
 use native.Mathlib.Nat.{pow-succ', div-one, div-div-eq-div-mul}
 use native.Mathlib.Omega.{arith}
-use borrow.Author.Tests.{ne-eqb, lt-ltb, le-ltb, ltb-true, ltb-false}
-use lib.Dec.{ltb, eqb}
+use borrow.Author.Tests.{ne-eqb, le-leb, leb-true, lt-ltb, le-ltb, ltb-true, ltb-false}
+use lib.Dec.{leb, ltb, eqb}
 use lib.Pow.{pow-mono}
 use Rattle.network.specs.Network.{m, has}
 use Rattle.network.specs.declared.Plan.{Plan}
 use Rattle.network.proofs.Bits.{has-none}
-use Rattle.host.specs.OwnLinks.{setOf, ends, endsBut, ownLinks}
+use Rattle.host.specs.OwnLinks.{setOf, placed, ends, endsBut}
 
 -- tests that agree below k make one set
 pub set-same : (k : ℕ) (f g : ℕ → Bool) → ((i : ℕ) → i < k → f i ≡ g i) → setOf k f ≡ setOf k g
@@ -54,10 +54,21 @@ set-whole f k i s h e =
     let whole : k - i ≡ k = omega arith in
     e ∙ ap (λ (x : ℕ). setOf x (λ j. f (i + j))) whole ∙ set-same k (λ j. f (i + j)) f (λ j l. let q : i + j ≡ j = omega arith in ap f q)
 
+-- how many links have a place
+pub placed-most : (p : Plan) → placed p ≤ 12
+placed-most p = go (leb (m p) 12) refl
+  where
+    go : (t : Bool) → leb (m p) 12 ≡ t → cond t (m p) 12 ≤ 12
+    go true e = leb-true (m p) 12 e
+    go false e = omega arith
+
+pub placed-all : (p : Plan) → m p ≤ 12 → placed p ≡ m p
+placed-all p h = ap (λ (t : Bool). cond t (m p) 12) (le-leb (m p) 12 h)
+
 -- all own links, asked for as all but one that no plan has
-pub all-own : (p : Plan) (own : ℕ) → m p ≤ 12 → setOf (m p) (endsBut p own 255) ≡ ownLinks p own
-all-own p own h =
-    set-same (m p) (endsBut p own 255) (ends p own) (λ i l. let ne : i ≡ 255 → ⊥ = λ q. omega arith in ap (λ (t : Bool). ends p own i && not t) (ne-eqb i 255 ne) ∙ and-true (ends p own i))
+pub all-own : (p : Plan) (own k : ℕ) → k ≤ 12 → setOf k (endsBut p own 255) ≡ setOf k (ends p own)
+all-own p own k h =
+    set-same k (endsBut p own 255) (ends p own) (λ i l. let ne : i ≡ 255 → ⊥ = λ q. omega arith in ap (λ (t : Bool). ends p own i && not t) (ne-eqb i 255 ne) ∙ and-true (ends p own i))
 
 -- ---- what is in the set
 

@@ -1,7 +1,7 @@
 -- A host's own links, as a set (01, "A host's calls"). Assumes nothing.
 use mathlib.Core.Bool.{Bool, not, cond, _&&_, _||_}
 use Prim.Native.Nat.{ℕ, zero, suc, _+_, _*_}
-use lib.Dec.{eqb}
+use lib.Dec.{leb, eqb}
 use Rattle.network.specs.Network.{m, link}
 use Rattle.network.specs.declared.Plan.{Plan}
 
@@ -9,6 +9,10 @@ use Rattle.network.specs.declared.Plan.{Plan}
 unfoldable pub setOf : ℕ → (ℕ → Bool) → ℕ
 setOf zero f = 0
 setOf (suc k) f = cond (f 0) 1 0 + 2 * setOf k (λ i. f (suc i))
+
+-- how many links of a plan have a place: all, where it is in range
+abbrev pub placed : Plan → ℕ
+placed p = cond (leb (m p) 12) (m p) 12
 
 -- link i of the plan has the host at an end
 abbrev pub ends : Plan → ℕ → ℕ → Bool

@@ -15,7 +15,7 @@ use Rattle.host.specs.declared.Held.{Held}
 use Rattle.host.specs.declared.Host.{Host}
 use Rattle.host.specs.State.{heldOf, sameName, before, sound, at}
 use Rattle.host.specs.Answers.{Said, saidBy, unless}
-use Rattle.host.specs.OwnLinks.{ends, otherLinks}
+use Rattle.host.specs.OwnLinks.{setOf, placed, ends, endsBut, otherLinks}
 use Rattle.host.specs.Tick.{due}
 
 -- 15: "own link or source that the plan lacks"
@@ -41,21 +41,26 @@ sameHeld x e = sameName x e && sameOrder (x .order) (e .order)
 abbrev pub otherHeld : Held → Held → Bool
 otherHeld x e = sameName x e && not (sameOrder (x .order) (e .order))
 
-unfoldable pub receiveTests : Host → ℕ → ℕ → ℕ → Held → List (ℕ × Bool)
-receiveTests h u arrival hop x =
-    (9, not (sound h))
-    ∷ (15, not (inPlan (h .plan) (h .own) arrival (x .source)))
+-- the tests after soundness, by what was seen of the history: whether the same order, another, any is held under the copy's name
+abbrev pub receiveChecks : Host → ℕ → ℕ → ℕ → Held → Bool → Bool → Bool → List (ℕ × Bool)
+receiveChecks h u arrival hop x same other named =
+    (15, not (inPlan (h .plan) (h .own) arrival (x .source)))
     ∷ (23, not (copyFits (h .rules) hop x))
     ∷ (10, not (leb u largestReading))
     ∷ (11, ltb u (h .last .0))
     ∷ (16, early (h .rules) (h .plan) u hop (x .stamp .0))
     ∷ (17, late (h .rules) (h .plan) u hop (x .stamp .0))
     ∷ (18, due (h .bound) u x)
-    ∷ (19, any (sameHeld x) (heldOf h))
-    ∷ (20, any (otherHeld x) (heldOf h))
-    ∷ (21, eqb (x .source) (h .own) && not (any (sameName x) (heldOf h)))
+    ∷ (19, same)
+    ∷ (20, other)
+    ∷ (21, eqb (x .source) (h .own) && not named)
     ∷ (14, leb 32 (h .held))
     ∷ []
+
+unfoldable pub receiveTests : Host → ℕ → ℕ → ℕ → Held → List (ℕ × Bool)
+receiveTests h u arrival hop x =
+    (9, not (sound h))
+    ∷ receiveChecks h u arrival hop x (any (sameHeld x) (heldOf h)) (any (otherHeld x) (heldOf h)) (any (sameName x) (heldOf h))
 
 abbrev pub receiveRefusal : Host → ℕ → ℕ → ℕ → Held → ℕ
 receiveRefusal h u arrival hop x = firstOf (receiveTests h u arrival hop x)
@@ -69,6 +74,14 @@ relayHop rules hop = cond (eqb hop 8) 0 (cond (eqb rules 2) (hop + 1) 0)
 
 abbrev pub receiveSays : Host → ℕ → ℕ → ℕ → Held → Said
 receiveSays h u arrival hop x = saidBy (receiveRefusal h u arrival hop x) (relayLinks h arrival hop) (relayHop (h .rules) hop)
+
+-- what a received copy is answered, of a sound state
+abbrev pub receiveAnswer : Host → ℕ → ℕ → ℕ → Held → Bool → Bool → Bool → Said
+receiveAnswer h u arrival hop x same other named =
+    saidBy
+    (firstOf (receiveChecks h u arrival hop x same other named))
+    (cond (eqb hop 8) 0 (setOf (placed (h .plan)) (endsBut (h .plan) (h .own) arrival)))
+    (relayHop (h .rules) hop)
 
 abbrev pub afterReceive : Host → Reading → Held → Host
 afterReceive h u x = at h u (h .started) (h .starts) (insert before x (heldOf h))

@@ -15,12 +15,12 @@ use Rattle.host.specs.declared.Held.{Held}
 use Rattle.host.specs.declared.Host.{Host}
 use Rattle.host.specs.State.{noReading, startsOf, heldOf, lastStart, before, sound, at}
 use Rattle.host.specs.Answers.{Said, saidBy, unless}
-use Rattle.host.specs.OwnLinks.{ownLinks}
+use Rattle.host.specs.OwnLinks.{setOf, placed, ends, ownLinks}
 
-unfoldable pub startTests : Host → ℕ → Order → List (ℕ × Bool)
-startTests h u o =
-    (9, not (sound h))
-    ∷ (23, not (shareFits o))
+-- the tests after soundness, which do not look at the history
+abbrev pub startChecks : Host → ℕ → Order → List (ℕ × Bool)
+startChecks h u o =
+    (23, not (shareFits o))
     ∷ (10, not (leb u largestStamp))
     ∷ (11, ltb u (h .last .0))
     ∷ (12, ltb 0 (h .started) && eqb u (lastStart h))
@@ -28,12 +28,19 @@ startTests h u o =
     ∷ (14, leb 32 (h .held))
     ∷ []
 
+unfoldable pub startTests : Host → ℕ → Order → List (ℕ × Bool)
+startTests h u o = (9, not (sound h)) ∷ startChecks h u o
+
 abbrev pub startRefusal : Host → ℕ → Order → ℕ
 startRefusal h u o = firstOf (startTests h u o)
 
 -- "The hop sent is 1 under the second rules, 0 under the first"
 abbrev pub startSays : Host → ℕ → Order → Said
 startSays h u o = saidBy (startRefusal h u o) (ownLinks (h .plan) (h .own)) (cond (eqb (h .rules) 2) 1 0)
+
+-- what a start answers, of a sound state
+abbrev pub startAnswer : Host → ℕ → Order → Said
+startAnswer h u o = saidBy (firstOf (startChecks h u o)) (setOf (placed (h .plan)) (ends (h .plan) (h .own))) (cond (eqb (h .rules) 2) 1 0)
 
 -- "its last four starts", with one more
 abbrev pub withStart : List Reading → Reading → List Reading

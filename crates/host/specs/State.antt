@@ -122,6 +122,21 @@ bare f =
       history = [];
     }
 
+-- a state but for its history
+abbrev pub frameOf : Host → Frame
+frameOf h =
+    record {
+      plan = h .plan;
+      rules = h .rules;
+      d = h .d;
+      bound = h .bound;
+      own = h .own;
+      last = h .last;
+      started = h .started;
+      starts = h .starts;
+      held = h .held;
+    }
+
 -- the state with these parts in place of its own; the plan, the rule set, d, Δ and the own number stay
 abbrev pub with : Host → Reading → List Reading → ℕ → List Held → ℕ → Host
 with h last starts started history held =

@@ -35,13 +35,16 @@ waitingOf h u = waitingIn (h .bound) u (heldOf h)
 abbrev pub written : List Held → List ℕ → List ℕ
 written l out = entriesOf l ++ drop (16 * length l) out
 
-unfoldable pub tickTests : Host → ℕ → ℕ → List (ℕ × Bool)
-tickTests h u room =
-    (9, not (sound h))
-    ∷ (10, not (leb u largestReading))
+-- the tests after soundness, by how many are due
+abbrev pub tickChecks : Host → ℕ → ℕ → ℕ → List (ℕ × Bool)
+tickChecks h u room count =
+    (10, not (leb u largestReading))
     ∷ (11, ltb u (h .last .0))
-    ∷ (22, ltb room (16 * length (dueOf h u)))
+    ∷ (22, ltb room (16 * count))
     ∷ []
+
+unfoldable pub tickTests : Host → ℕ → ℕ → List (ℕ × Bool)
+tickTests h u room = (9, not (sound h)) ∷ tickChecks h u room (length (dueOf h u))
 
 abbrev pub tickRefusal : Host → ℕ → ℕ → ℕ
 tickRefusal h u room = firstOf (tickTests h u room)
@@ -49,6 +52,10 @@ tickRefusal h u room = firstOf (tickTests h u room)
 -- "the answer is their number"
 abbrev pub tickSays : Host → ℕ → ℕ → SaidTick
 tickSays h u room = saidByTick (tickRefusal h u room) (length (dueOf h u))
+
+-- what a tick answers, of a sound state
+abbrev pub tickAnswer : Host → ℕ → ℕ → ℕ → SaidTick
+tickAnswer h u room count = saidByTick (firstOf (tickChecks h u room count)) count
 
 abbrev pub afterTick : Host → Reading → Host
 afterTick h u = at h u (h .started) (h .starts) (waitingOf h (u .0))

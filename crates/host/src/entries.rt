@@ -22,6 +22,7 @@ pub(crate) fn put_entry(out: &mut [u8], at: usize, e: Held)
     }
 }
 
+// The bytes of a held order.
 pub fn entry(e: Held) -> [u8; 16]
     ensures { λ r. ⌜ r ≡ entryOf e ⌝ }
 {

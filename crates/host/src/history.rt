@@ -1,5 +1,6 @@
 // The history: what is held under a name, whether all that is held may be held, and one order more.
 use crate::Held;
+use crate::Seen;
 use crate::unused::is_no_held;
 use clock::Reading;
 use clock::is_stamp;
@@ -17,13 +18,6 @@ ghost use Rattle.lists.specs.Lists.{all, any, rising, insert, pad};
 ghost use Rattle.host.specs.State.{noHeld, isNoHeld, sameName, before, fits, ownStarted};
 ghost use Rattle.host.specs.Receive.{sameHeld, otherHeld};
 ghost use Rattle.host.specs.Tick.{due};
-
-// What is held under an order's name.
-pub(crate) struct Seen {
-    pub same: bool,
-    pub other: bool,
-    pub named: bool,
-}
 
 // Whether the order's name is held: for the same order, for another, for any.
 pub(crate) fn look(history: [Held; 32], held: usize, x: Held) -> Seen

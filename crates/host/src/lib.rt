@@ -23,10 +23,16 @@ pub use making::make;
 use network::Plan;
 use orders::Order;
 pub use receiving::after_receive;
+pub use receiving::receive_answer;
 pub use sound::is_framed;
 pub use sound::is_sound;
 pub use starting::after_start;
+pub use starting::start_answer;
+pub use starts::newest;
+pub use starts::one_more;
+pub use starts::with_start;
 pub use ticking::after_tick;
+pub use ticking::tick_answer;
 
 // An order under its name, which is its stamp and its source.
 pub struct Held {
@@ -60,6 +66,13 @@ pub struct Frame {
     pub started: usize,
     pub starts: [Reading; 4],
     pub held: usize,
+}
+
+// What a history holds under an order's name: the same order, another, any.
+pub struct Seen {
+    pub same: bool,
+    pub other: bool,
+    pub named: bool,
 }
 
 // Why a call was refused.

@@ -1,8 +1,10 @@
 // Receive a copy of an order at a reading, over a link.
 use crate::Acted;
+use crate::Frame;
 use crate::Held;
 use crate::Host;
 use crate::Refusal;
+use crate::Seen;
 use crate::SendAnswer;
 use crate::Verdict;
 use crate::checks::or_if;
@@ -11,6 +13,7 @@ use crate::history::look;
 use crate::history::with_held;
 use crate::links::is_end;
 use crate::links::links_but;
+use crate::sound::frame_of;
 use crate::sound::is_sound;
 use crate::states::at_reading;
 use clock::Reading;
@@ -21,70 +24,90 @@ use network::Plan;
 use orders::hop_fits;
 use orders::share_fits;
 ghost use mathlib.Core.Path.{_≡_};
-ghost use mathlib.Core.Bool.{true, cond};
+ghost use mathlib.Core.Bool.{cond};
 ghost use Prim.Native.Nat.{_+_, _≤_};
 ghost use lib.Dec.{eqb, leb};
-ghost use Rattle.network.specs.Network.{m};
-ghost use Rattle.host.specs.State.{sound};
+ghost use Rattle.lists.specs.Tests.{firstOf};
+ghost use Rattle.host.specs.State.{bare};
 ghost use Rattle.host.specs.Answers.{refusalOf, says};
-ghost use Rattle.host.specs.OwnLinks.{otherLinks};
-ghost use Rattle.host.specs.Receive.{inPlan, copyFits, early, late, relayHop, receiveRefusal, receiveSays, receiveHost};
+ghost use Rattle.host.specs.OwnLinks.{setOf, placed, endsBut};
+ghost use Rattle.host.specs.Receive.{inPlan, copyFits, early, late, receiveChecks, receiveRefusal, relayHop, receiveAnswer, receiveSays, receiveHost};
 
 // The order is held, to be relayed on all own links but the one it came over; or the state comes back as it was.
 pub fn after_receive(host: Host, u: Reading, arrival: u8, hop: u8, copy: Held) -> Acted
     ensures { λ r. ⌜ (r .host ≡ receiveHost host u arrival hop copy) × (says (r .answer) ≡ receiveSays host (u .0) arrival hop copy) ⌝ }
 {
-    let found = receive_verdict(host, u, arrival, hop, copy);
-    match found {
-        Verdict::Refused(refusal) => Acted {
+    if !is_sound(host) {
+        return Acted {
+            host,
+            answer: SendAnswer::Refused(Refusal::Unsound),
+        };
+    }
+    let history = host.history;
+    let seen = look(history, host.held, copy);
+    let answer = receive_answer(frame_of(host), u, arrival, hop, copy, seen);
+    match answer {
+        SendAnswer::Refused(refusal) => Acted {
             host,
             answer: SendAnswer::Refused(refusal),
         },
-        Verdict::Clear => receive_accepted(host, u, arrival, hop, copy),
+        SendAnswer::Sent { links, hop: next } => Acted {
+            host: receive_held(host, u, arrival, hop, copy),
+            answer: SendAnswer::Sent { links, hop: next },
+        },
     }
 }
 
-fn receive_verdict(host: Host, u: Reading, arrival: u8, hop: u8, copy: Held) -> Verdict
-    ensures { λ r. ⌜ refusalOf r ≡ receiveRefusal host (u .0) arrival hop copy ⌝ }
+// What a received copy is answered, by all of a sound state but its history, and by what was seen there.
+pub fn receive_answer(
+    frame: Frame,
+    u: Reading,
+    arrival: u8,
+    hop: u8,
+    copy: Held,
+    seen: Seen,
+) -> SendAnswer
+    ensures { λ r. ⌜ says r ≡ receiveAnswer (bare frame) (u .0) arrival hop copy (seen .same) (seen .other) (seen .named) ⌝ }
 {
-    if !is_sound(host) {
-        return Verdict::Refused(Refusal::Unsound);
+    let plan = frame.plan;
+    let found = receive_checks(frame, u, arrival, hop, copy, seen);
+    match found {
+        Verdict::Refused(refusal) => SendAnswer::Refused(refusal),
+        Verdict::Clear => SendAnswer::Sent {
+            links: relay_links(plan, frame.own, arrival, hop),
+            hop: relay_hop(frame.rules, hop),
+        },
     }
-    receive_checks(host, u, arrival, hop, copy)
 }
 
-fn receive_checks(host: Host, u: Reading, arrival: u8, hop: u8, copy: Held) -> Verdict
-    requires { ⌜ sound host ≡ true ⌝ }
-    ensures { λ r. ⌜ refusalOf r ≡ receiveRefusal host (u .0) arrival hop copy ⌝ }
+fn receive_checks(frame: Frame, u: Reading, arrival: u8, hop: u8, copy: Held, seen: Seen) -> Verdict
+    ensures { λ r. ⌜ refusalOf r ≡ firstOf (receiveChecks (bare frame) (u .0) arrival hop copy (seen .same) (seen .other) (seen .named)) ⌝ }
 {
-    let plan = host.plan;
-    let history = host.history;
-    let rules = host.rules;
+    let plan = frame.plan;
+    let rules = frame.rules;
     let stamp = copy.stamp;
-    let seen = look(history, host.held, copy);
     let mut found = or_if(
         Verdict::Clear,
-        !is_in_plan(plan, host.own, arrival, copy.source),
+        !is_in_plan(plan, frame.own, arrival, copy.source),
         Refusal::NotInPlan,
     );
     found = or_if(found, !is_fit_copy(rules, hop, copy), Refusal::BadValue);
     found = or_if(found, !is_reading(u), Refusal::BadReading);
-    found = or_if(found, u.0 < host.last.0, Refusal::Behind);
+    found = or_if(found, u.0 < frame.last.0, Refusal::Behind);
     found = or_if(found, is_early(rules, plan, u, hop, stamp), Refusal::Early);
     found = or_if(found, is_late(rules, plan, u, hop, stamp), Refusal::Late);
-    found = or_if(found, is_due(copy, host.bound, u), Refusal::Past);
+    found = or_if(found, is_due(copy, frame.bound, u), Refusal::Past);
     found = or_if(found, seen.same, Refusal::Known);
     found = or_if(found, seen.other, Refusal::OtherHeld);
     found = or_if(
         found,
-        (copy.source == host.own) & !seen.named,
+        (copy.source == frame.own) & !seen.named,
         Refusal::OwnNotHeld,
     );
-    or_if(found, 32 <= host.held, Refusal::HistoryFull)
+    or_if(found, 32 <= frame.held, Refusal::HistoryFull)
 }
 
 fn is_in_plan(plan: Plan, own: u8, arrival: u8, source: u8) -> bool
-    requires { ⌜ m plan ≤ 12 ⌝ }
     ensures { λ r. ⌜ r ≡ inPlan plan own arrival source ⌝ }
 {
     if arrival >= plan.link_count {
@@ -124,28 +147,19 @@ fn is_late(rules: u8, plan: Plan, u: Reading, hop: u8, stamp: Reading) -> bool
         )
 }
 
-fn receive_accepted(host: Host, u: Reading, arrival: u8, hop: u8, copy: Held) -> Acted
+fn receive_held(host: Host, u: Reading, arrival: u8, hop: u8, copy: Held) -> Host
     requires { ⌜ receiveRefusal host (u .0) arrival hop copy ≡ 0 ⌝ }
-    ensures { λ r. ⌜ r .host ≡ receiveHost host u arrival hop copy ⌝ }
-    ensures { λ r. ⌜ says (r .answer) ≡ receiveSays host (u .0) arrival hop copy ⌝ }
+    ensures { λ r. ⌜ r ≡ receiveHost host u arrival hop copy ⌝ }
 {
-    let plan = host.plan;
     let starts = host.starts;
     let history = host.history;
     let held = host.held;
     let after = with_held(history, held, copy);
-    Acted {
-        host: at_reading(host, u, starts, host.started, after, held + 1),
-        answer: SendAnswer::Sent {
-            links: relay_links(plan, host.own, arrival, hop),
-            hop: relay_hop(host.rules, hop),
-        },
-    }
+    at_reading(host, u, starts, host.started, after, held + 1)
 }
 
 fn relay_links(plan: Plan, own: u8, arrival: u8, hop: u8) -> u16
-    requires { ⌜ m plan ≤ 12 ⌝ }
-    ensures { λ r. ⌜ r ≡ cond (eqb hop 8) 0 (otherLinks plan own arrival) ⌝ }
+    ensures { λ r. ⌜ r ≡ cond (eqb hop 8) 0 (setOf (placed plan) (endsBut plan own arrival)) ⌝ }
 {
     if hop == 8 {
         return 0;

@@ -11,34 +11,50 @@ use network::bound;
 use network::is_proper;
 use orders::is_rules;
 ghost use mathlib.Core.Path.{_≡_};
-ghost use Rattle.host.specs.State.{bare, framed, sound};
+ghost use Rattle.host.specs.State.{bare, frameOf, framed, sound};
 
 // Whether a state is sound.
 pub fn is_sound(host: Host) -> bool
     ensures { λ r. ⌜ r ≡ sound host ⌝ }
 {
+    let held = host.held;
+    let frame = frame_of(host);
+    if !is_framed(frame) {
+        return false;
+    }
+    let plan = host.plan;
+    let starts = host.starts;
+    let started = host.started;
+    let history = host.history;
+    let last_start = newest(starts, started);
+    is_history(
+        history,
+        host.held,
+        plan.hosts,
+        host.own,
+        started,
+        last_start,
+    )
+}
+
+// A state but for its history.
+pub(crate) fn frame_of(host: Host) -> Frame
+    ensures { λ r. ⌜ r ≡ frameOf host ⌝ }
+{
     let plan = host.plan;
     let last = host.last;
     let starts = host.starts;
-    let started = host.started;
-    let held = host.held;
-    let frame = Frame {
+    Frame {
         plan,
         rules: host.rules,
         d: host.d,
         bound: host.bound,
         own: host.own,
         last,
-        started,
+        started: host.started,
         starts,
-        held,
-    };
-    if !is_framed(frame) {
-        return false;
+        held: host.held,
     }
-    let history = host.history;
-    let last_start = newest(starts, started);
-    is_history(history, held, plan.hosts, host.own, started, last_start)
 }
 
 // Whether all of a state but its history is sound: the tests in the order in which the build paper lists them.

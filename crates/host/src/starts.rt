@@ -1,20 +1,21 @@
 // The last four starts, oldest first.
 use clock::Reading;
 ghost use mathlib.Core.Path.{_≡_};
-ghost use mathlib.Core.Bool.{true};
 ghost use Prim.Native.Nat.{_+_, _-_, _≤_};
-ghost use lib.ListN.{take, drop, getD, length};
+ghost use lib.ListN.{take, getD};
 ghost use Rattle.lists.specs.Lists.{all, rising, pad};
-ghost use Rattle.host.specs.State.{noReading, isNoReading, earlier, notAbove};
+ghost use Rattle.host.specs.State.{noReading, earlier, notAbove};
 ghost use Rattle.host.specs.Start.{withStart};
 
-// The last start; any reading where there is none.
-pub(crate) fn newest(starts: [Reading; 4], started: usize) -> Reading
-    requires { ⌜ started ≤ 4 ⌝ }
+// The last start; any reading where there is none, and the zero reading where its place is past the last.
+pub fn newest(starts: [Reading; 4], started: usize) -> Reading
     ensures { λ r. ⌜ r ≡ getD starts (started - 1) noReading ⌝ }
 {
     if started == 0 {
         return starts[0];
+    }
+    if started > 4 {
+        return Reading(0);
     }
     starts[started - 1]
 }
@@ -62,22 +63,28 @@ fn is_passed(s: Reading, last: Reading) -> bool
     s.0 <= last.0
 }
 
-// The last four starts with one more.
-pub(crate) fn with_start(starts: [Reading; 4], started: usize, u: Reading) -> [Reading; 4]
-    requires { ⌜ (started ≤ 4) × (all isNoReading (drop started starts) ≡ true) ⌝ }
-    ensures { λ r. ⌜ (r ≡ pad 4 noReading (withStart (take started starts) u)) × (length (withStart (take started starts) u) ≡ started - (started - 3) + 1) ⌝ }
+// The last four starts with one more; the places behind them zero.
+pub fn with_start(starts: [Reading; 4], started: usize, u: Reading) -> [Reading; 4]
+    ensures { λ r. ⌜ r ≡ pad 4 noReading (withStart (take started starts) u) ⌝ }
 {
-    if started < 4 {
-        let mut all = starts;
-        all[started] = u;
-        return all;
+    let none = Reading(0);
+    if started == 0 {
+        return [u, none, none, none];
+    }
+    if started == 1 {
+        return [starts[0], u, none, none];
+    }
+    if started == 2 {
+        return [starts[0], starts[1], u, none];
+    }
+    if started == 3 {
+        return [starts[0], starts[1], starts[2], u];
     }
     [starts[1], starts[2], starts[3], u]
 }
 
 // How many starts are then kept.
-pub(crate) fn one_more(started: usize) -> usize
-    requires { ⌜ started ≤ 4 ⌝ }
+pub fn one_more(started: usize) -> usize
     ensures { λ r. ⌜ r ≡ started - (started - 3) + 1 ⌝ }
 {
     if started < 4 { started + 1 } else { 4 }

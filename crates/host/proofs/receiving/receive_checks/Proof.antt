@@ -1,21 +1,15 @@
 -- The chain of checks is the order of checks. Assumes nothing.
 use borrow.Author.Needs.{needs}
-use mathlib.Core.Path.{refl, ap}
-use mathlib.Core.Bool.{Bool, not, _&&_}
-use lib.ListN.{drop}
-use Rattle.lists.proofs.TestLaws.{or-step}
-use Rattle.host.specs.Receive.{receiveTests}
-use Rattle.host.proofs.Facts.{sound-is, past-sound}
-use Rattle.network.proofs.Ranges.{ranges}
-use lib.Dec.{eqb}
+use mathlib.Core.Path.{refl, ap, _∙_}
+use mathlib.Core.Bool.{not}
+use Rattle.lists.proofs.TestLaws.{or-step, first-chain}
+use Rattle.host.specs.Receive.{receiveChecks}
+use Rattle.host.specs.State.{bare}
 use Rattle.host.proofs.receiving.receive_checks.Statement.{statement}
 use Rattle.host.proofs.receiving.receive_checks.Tie as tie
 
-look-requires : tie.Need-look-requires
-look-requires c κs = sound-is _ (c .before .before .before .pre) .held
-
 is-in-plan-requires : tie.Need-is-in-plan-requires
-is-in-plan-requires c κs = ranges _ (sound-is _ (c .before .before .before .before .pre) .ranges) .links-high
+is-in-plan-requires c κs = search needs
 
 or-if-requires : tie.Need-or-if-requires
 or-if-requires c κs = search needs
@@ -66,9 +60,8 @@ or-if-requires-11 : tie.Need-or-if-requires-11
 or-if-requires-11 c κs = search needs
 
 returns : tie.Need-returns
-unfolding receiveTests
 returns c =
-    let a = c .before .before .before .before .before .before .before .before .before .before .before .before .before .before .before .before .before .before .before .before .before .before .before .before .before .before .before .args in
+    let a = c .before .before .before .before .before .before .before .before .before .before .before .before .before .before .before .before .before .before .before .before .before .before .before .before .before .args in
     let s1 = or-step _ _ _ (c .before .before .before .before .before .before .before .before .before .before .before .before .before .before .before .before .before .before .before .before .before .or-if .ensures) refl (ap not (c .before .before .before .before .before .before .before .before .before .before .before .before .before .before .before .before .before .before .before .before .before .before .is-in-plan .ensures)) in
     let s2 = or-step _ _ _ (c .before .before .before .before .before .before .before .before .before .before .before .before .before .before .before .before .before .before .before .or-if2 .ensures) s1 (ap not (c .before .before .before .before .before .before .before .before .before .before .before .before .before .before .before .before .before .before .before .before .is-fit-copy .ensures)) in
     let s3 = or-step _ _ _ (c .before .before .before .before .before .before .before .before .before .before .before .before .before .before .before .before .before .or-if3 .ensures) s2 (ap not (c .before .before .before .before .before .before .before .before .before .before .before .before .before .before .before .before .before .before .is-reading .ensures)) in
@@ -76,17 +69,16 @@ returns c =
     let s5 = or-step _ _ _ (c .before .before .before .before .before .before .before .before .before .before .before .before .or-if5 .ensures) s4 (c .before .before .before .before .before .before .before .before .before .before .before .before .before .is-early .ensures) in
     let s6 = or-step _ _ _ (c .before .before .before .before .before .before .before .before .before .before .or-if6 .ensures) s5 (c .before .before .before .before .before .before .before .before .before .before .before .is-late .ensures) in
     let s7 = or-step _ _ _ (c .before .before .before .before .before .before .before .before .or-if7 .ensures) s6 (c .before .before .before .before .before .before .before .before .before .is-due .ensures) in
-    let s8 = or-step _ _ _ (c .before .before .before .before .before .before .before .or-if8 .ensures) s7 (c .before .before .before .before .before .before .before .before .before .before .before .before .before .before .before .before .before .before .before .before .before .before .before .look .ensures .0) in
-    let s9 = or-step _ _ _ (c .before .before .before .before .before .before .or-if9 .ensures) s8 (c .before .before .before .before .before .before .before .before .before .before .before .before .before .before .before .before .before .before .before .before .before .before .before .look .ensures .1 .0) in
-    let s10 = or-step _ _ _ (c .before .before .or-if10 .ensures) s9 (ap (λ (t : Bool). eqb (a .copy .source) (a .host .own) && not t) (c .before .before .before .before .before .before .before .before .before .before .before .before .before .before .before .before .before .before .before .before .before .before .before .look .ensures .1 .1)) in
+    let s8 = or-step _ _ _ (c .before .before .before .before .before .before .before .or-if8 .ensures) s7 refl in
+    let s9 = or-step _ _ _ (c .before .before .before .before .before .before .or-if9 .ensures) s8 refl in
+    let s10 = or-step _ _ _ (c .before .before .or-if10 .ensures) s9 refl in
     let s11 = or-step _ _ _ (c .or-if11 .ensures) s10 refl in
-    past-sound (a .host) (drop 1 (receiveTests (a .host) (a .u .0) (a .arrival) (a .hop) (a .copy))) (c .before .before .before .before .before .before .before .before .before .before .before .before .before .before .before .before .before .before .before .before .before .before .before .before .before .before .before .pre) refl s11
+    s11 ∙ first-chain (receiveChecks (bare (a .frame)) (a .u .0) (a .arrival) (a .hop) (a .copy) (a .seen .same) (a .seen .other) (a .seen .named)) refl
 
 pub receive-checks-spec : {M : Type 1} → statement M
 receive-checks-spec =
     tie.close
     (tie.spec
-    look-requires
     is-in-plan-requires
     or-if-requires
     is-fit-copy-requires

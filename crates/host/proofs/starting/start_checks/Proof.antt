@@ -1,16 +1,13 @@
 -- The chain of checks is the order of checks. Assumes nothing.
-use Rattle.clock.specs.declared.Reading.{Reading}
-use Rattle.host.specs.State.{noReading, noReading}
+use Rattle.host.specs.State.{noReading, bare}
 use lib.ListN.{getD}
 use Rattle.clock.specs.declared.Reading.{Reading}
 use borrow.Author.Needs.{needs}
 use mathlib.Core.Path.{refl, ap, _∙_}
 use mathlib.Core.Bool.{Bool, not, _&&_}
-use lib.ListN.{drop}
 use Prim.Native.Nat.{ℕ, _+_}
-use Rattle.lists.proofs.TestLaws.{or-step}
-use Rattle.host.specs.Start.{startTests}
-use Rattle.host.proofs.Facts.{sound-is, past-sound}
+use Rattle.lists.proofs.TestLaws.{or-step, first-chain}
+use Rattle.host.specs.Start.{startChecks}
 use lib.Dec.{eqb, ltb, leb}
 use Rattle.host.proofs.starting.start_checks.Statement.{statement}
 use Rattle.host.proofs.starting.start_checks.Tie as tie
@@ -19,7 +16,7 @@ array-copy-out-fourth-last : tie.Need-array-copy-out-fourth-last
 array-copy-out-fourth-last c = search needs
 
 newest-requires : tie.Need-newest-requires
-newest-requires c κs = sound-is _ (c .before .before .before .pre) .started
+newest-requires c κs = search needs
 
 window-requires : tie.Need-window-requires
 window-requires c κs = search needs
@@ -52,16 +49,15 @@ or-if-requires-6 : tie.Need-or-if-requires-6
 or-if-requires-6 c κs = search needs
 
 returns : tie.Need-returns
-unfolding startTests
 returns c =
     let a = c .before .before .before .before .before .before .before .before .before .before .before .before .before .before .before .before .before .before .before .args in
     let s1 = or-step _ _ _ (c .before .before .before .before .before .before .before .before .before .before .before .or-if .ensures) refl (ap not (c .before .before .before .before .before .before .before .before .before .before .before .before .share-fits .ensures)) in
     let s2 = or-step _ _ _ (c .before .before .before .before .before .before .before .before .before .or-if2 .ensures) s1 (ap not (c .before .before .before .before .before .before .before .before .before .before .is-stamp .ensures)) in
     let s3 = or-step _ _ _ (c .before .before .before .before .before .before .or-if3 .ensures) s2 refl in
-    let s4 = or-step _ _ _ (c .before .before .before .or-if4 .ensures) s3 (ap (λ (s : Reading). ltb 0 (a .host .started) && eqb (a .u .0) (s .0)) (c .before .before .before .before .before .before .before .before .before .before .before .before .before .before .before .newest .ensures)) in
-    let s5 = or-step _ _ _ (c .before .before .or-if5 .ensures) s4 (ap (λ (t : Bool). leb 4 (a .host .started) && not t) (c .before .before .before .before .before .before .before .before .before .before .before .before .before .reached .ensures ∙ ap (λ (w : ℕ). leb (getD (a .host .starts) 0 noReading .0 + w) (a .u .0)) (c .before .before .before .before .before .before .before .before .before .before .before .before .before .before .window .ensures))) in
+    let s4 = or-step _ _ _ (c .before .before .before .or-if4 .ensures) s3 (ap (λ (s : Reading). ltb 0 (a .frame .started) && eqb (a .u .0) (s .0)) (c .before .before .before .before .before .before .before .before .before .before .before .before .before .before .before .newest .ensures)) in
+    let s5 = or-step _ _ _ (c .before .before .or-if5 .ensures) s4 (ap (λ (t : Bool). leb 4 (a .frame .started) && not t) (c .before .before .before .before .before .before .before .before .before .before .before .before .before .reached .ensures ∙ ap (λ (w : ℕ). leb (getD (a .frame .starts) 0 noReading .0 + w) (a .u .0)) (c .before .before .before .before .before .before .before .before .before .before .before .before .before .before .window .ensures))) in
     let s6 = or-step _ _ _ (c .or-if6 .ensures) s5 refl in
-    past-sound (a .host) (drop 1 (startTests (a .host) (a .u .0) (a .order))) (c .before .before .before .before .before .before .before .before .before .before .before .before .before .before .before .before .before .before .before .pre) refl s6
+    s6 ∙ first-chain (startChecks (bare (a .frame)) (a .u .0) (a .order)) refl
 
 pub start-checks-spec : {M : Type 1} → statement M
 start-checks-spec =

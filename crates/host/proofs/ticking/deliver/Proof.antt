@@ -143,15 +143,12 @@ returns c =
     let end : s .i ≡ a .held = omega arith in
     let D : ℕ → List Held = λ k. keep p (take k l) in
     let W : ℕ → List Held = λ k. keep w (take k l) in (
-      s .inv .1 ∙ ap (λ (k : ℕ). length (D k)) end,
+      s .inv .2 ∙ ap (λ (k : ℕ). length (W k)) end,
       (
-        s .inv .2 ∙ ap (λ (k : ℕ). length (W k)) end,
-        (
-          s .inv .4 ∙ ap (λ (k : ℕ). pad 32 noHeld (W k)) end,
-          s .inv .6
-              ∙ ap (λ (n : ℕ). entriesOf (D (s .i)) ++ drop (16 * n) (a .out .now)) (s .inv .1)
-              ∙ ap (λ (k : ℕ). entriesOf (D k) ++ drop (16 * length (D k)) (a .out .now)) end,
-        ),
+        s .inv .4 ∙ ap (λ (k : ℕ). pad 32 noHeld (W k)) end,
+        s .inv .6
+            ∙ ap (λ (n : ℕ). entriesOf (D (s .i)) ++ drop (16 * n) (a .out .now)) (s .inv .1)
+            ∙ ap (λ (k : ℕ). entriesOf (D k) ++ drop (16 * length (D k)) (a .out .now)) end,
       ),
     )
 
