@@ -32,17 +32,17 @@ use Rattle.service.proofs.Forms.{by-form, from-fits, from-blank}
 
 -- ---- a place of a sound state's history holds an order in range, or none
 
-abbrev holds : Held → Bool
+abbrev pub holds : Held → Bool
 holds x = shareFits (x .order) || isNoHeld x
 
-all-hold : (h : Host) → SoundIs h → all holds (h .history) ≡ true
+pub all-hold : (h : Host) → SoundIs h → all holds (h .history) ≡ true
 all-hold h s =
     subst (λ (l : List Held). all holds l ≡ true) (take-append-drop (h .held) (h .history))
     (all-append holds (heldOf h) (drop (h .held) (h .history))
     (member-all holds (heldOf h) (λ x i. or-true-left (shareFits (x .order)) (isNoHeld x) (and-right (leb (x .stamp .0) largestStamp && ltb (x .source) (n (h .plan))) (shareFits (x .order)) (all-member (host.fits (n (h .plan))) (heldOf h) (s .fit) x i))))
     (member-all holds (drop (h .held) (h .history)) (λ x i. or-true-right (shareFits (x .order)) (isNoHeld x) (all-member isNoHeld (drop (h .held) (h .history)) (s .history-unused) x i))))
 
-low : (h : Host) → SoundIs h → h .own < 8
+pub low : (h : Host) → SoundIs h → h .own < 8
 low h s = omega (arith, s .own, ranges (h .plan) (s .ranges) .hosts-high)
 
 -- ---- from the state
@@ -53,7 +53,7 @@ order-back (Halt image) e = refl
 order-back (Resume image) e = refl
 order-back (Withdraw image) e = refl
 
-held-back : (x : Held) → holds x ≡ true → heldFrom (heldMemory x) ≡ x
+pub held-back : (x : Held) → holds x ≡ true → heldFrom (heldMemory x) ≡ x
 held-back x e = go (or-cases (shareFits (x .order)) (isNoHeld x) e)
   where
     go : (shareFits (x .order) ≡ true) ⊎ (isNoHeld x ≡ true) → heldFrom (heldMemory x) ≡ x
@@ -107,13 +107,13 @@ place-there x e = go (or-cases (shareFits (heldFrom x .order)) (isNoHeld (heldFr
 pub only-none : (x : HeldMemory) → unusedIn x ≡ true → x ≡ none
 only-none x e = sym (place-there x (or-true-right (shareFits (heldFrom x .order)) (isNoHeld (heldFrom x)) e)) ∙ ap heldMemory (only-held (heldFrom x) e)
 
-places-there : (l : List HeldMemory) → all holds (map heldFrom l) ≡ true → map heldMemory (map heldFrom l) ≡ l
+pub places-there : (l : List HeldMemory) → all holds (map heldFrom l) ≡ true → map heldMemory (map heldFrom l) ≡ l
 places-there [] e = refl
 places-there (x ∷ l) e =
     ap₂ (λ (y : HeldMemory) (k : List HeldMemory). y ∷ k) (place-there x (and-left (holds (heldFrom x)) (all holds (map heldFrom l)) e))
     (places-there l (and-right (holds (heldFrom x)) (all holds (map heldFrom l)) e))
 
-own-there : (own : ℕ) → ownFrom own < 8 → ownFrom own ≡ own
+pub own-there : (own : ℕ) → ownFrom own < 8 → ownFrom own ≡ own
 own-there own = go (ltb own 8)
   where
     go : (b : Bool) → cond b own 255 < 8 → cond b own 255 ≡ own

@@ -1,5 +1,6 @@
 -- Notions that only private contracts cite. Assumes nothing.
 use mathlib.Core.Bool.{Bool, not}
+use mathlib.Core.List.{List}
 use Prim.Native.Nat.{ℕ}
 use Rattle.host.specs.declared.Held.{Held}
 use Rattle.host.specs.State.{fits, before, ownStarted, isNoHeld, sameName}
@@ -10,21 +11,25 @@ use Rattle.service.specs.Memory.{heldFrom}
 use Rattle.clock.specs.declared.Reading.{Reading}
 use Rattle.service.specs.declared.HostMemory.{HostMemory}
 
--- the memory with another last reading
-abbrev pub memoryAt : HostMemory → Reading → HostMemory
-memoryAt f u =
+-- the memory with these parts in place of its own; the plan, the rule set, d, Δ and the own number stay
+abbrev pub memoryWith : HostMemory → Reading → ℕ → List Reading → ℕ → List HeldMemory → HostMemory
+memoryWith f last started starts held history =
     record {
       bound = f .bound;
-      last = u;
+      last = last;
       own = f .own;
-      started = f .started;
-      held = f .held;
-      starts = f .starts;
-      history = f .history;
+      started = started;
+      held = held;
+      starts = starts;
+      history = history;
       plan = f .plan;
       rules = f .rules;
       d = f .d;
     }
+
+-- the memory with another last reading
+abbrev pub memoryAt : HostMemory → Reading → HostMemory
+memoryAt f u = memoryWith f u (f .started) (f .starts) (f .held) (f .history)
 
 -- ---- the host's tests of the order that stands in a place
 

@@ -1,26 +1,29 @@
-// The calls of a host on its flat memory, by value.
+// The calls of a host on its flat memory, by value: what each leaves, and what it answers.
 use crate::HostLeft;
 use crate::HostMemory;
-use crate::memory::host_from;
+use crate::answers::to_copy;
+use crate::answers::to_start;
+use crate::answers::to_tick;
+use crate::changes::deliver;
+use crate::changes::with_held;
+use crate::memory::held_memory;
 use crate::memory::host_memory;
 use crate::memory::later;
+use crate::memory::own_from;
 use crate::orders_in::order_from;
 use clock::Reading;
-use host::Acted;
 use host::Held;
-use host::SendAnswer;
-use host::TickAnswer;
 use host::Verdict;
 use host::number_of;
+use host::one_more;
+use host::with_start;
+use orders::Order;
 ghost use mathlib.Core.Path.{_≡_};
 ghost use lib.ListN.{length};
-ghost use lib.Dec.{eqb};
-ghost use mathlib.Core.Bool.{cond};
-ghost use Rattle.host.specs.Answers.{says};
 ghost use Rattle.host.specs.Make.{makeRefusal};
-ghost use Rattle.host.specs.Start.{startSays};
-ghost use Rattle.host.specs.Receive.{receiveSays};
-ghost use Rattle.host.specs.Tick.{tickSays, tickList};
+ghost use Rattle.host.specs.Start.{startRefusal, startSays, afterStart};
+ghost use Rattle.host.specs.Receive.{receiveRefusal, receiveSays, afterReceive};
+ghost use Rattle.host.specs.Tick.{tickRefusal, tickSays, tickList, afterTick};
 ghost use Rattle.host.specs.Calls.{start, receive, ticks};
 ghost use Rattle.service.specs.Memory.{orderFrom, copyFrom, hostFrom, hostMemory};
 ghost use Rattle.service.specs.Calls.{callLeft, sendNumber, tickNumber, makeLeft};
@@ -56,9 +59,46 @@ pub(crate) fn left_by_start(
 ) -> HostLeft
     ensures { λ r. ⌜ (r .memory ≡ callLeft memory (record { 0 = u }) (start (orderFrom kind image share))) × (r .answer ≡ sendNumber (startSays (hostFrom memory) u (orderFrom kind image share))) ⌝ }
 {
-    let host = host_from(memory);
+    let answered = to_start(memory, u, kind, image, share);
+    if !answered.accepted {
+        return HostLeft {
+            memory,
+            answer: answered.number,
+        };
+    }
     let order = order_from(kind, image, share);
-    sent(memory, host::after_start(host, Reading(u), order))
+    HostLeft {
+        memory: after_start(memory, Reading(u), order),
+        answer: answered.number,
+    }
+}
+
+fn after_start(memory: HostMemory, u: Reading, order: Order) -> HostMemory
+    requires { ⌜ startRefusal (hostFrom memory) (u .0) order ≡ 0 ⌝ }
+    ensures { λ r. ⌜ r ≡ hostMemory (afterStart (hostFrom memory) u order) ⌝ }
+{
+    let starts = memory.starts;
+    let started = memory.started;
+    let history = memory.history;
+    let held = memory.held;
+    let plan = memory.plan;
+    let x = Held {
+        stamp: u,
+        source: own_from(memory.own),
+        order,
+    };
+    HostMemory {
+        bound: memory.bound,
+        last: u,
+        own: memory.own,
+        started: one_more(started),
+        held: held + 1,
+        starts: with_start(starts, started, u),
+        history: with_held(history, held, held_memory(x)),
+        plan,
+        rules: memory.rules,
+        d: memory.d,
+    }
 }
 
 pub(crate) fn left_by_receive(
@@ -74,62 +114,88 @@ pub(crate) fn left_by_receive(
 ) -> HostLeft
     ensures { λ r. ⌜ (r .memory ≡ callLeft memory (record { 0 = u }) (receive link hop (copyFrom stamp source kind image share))) × (r .answer ≡ sendNumber (receiveSays (hostFrom memory) u link hop (copyFrom stamp source kind image share))) ⌝ }
 {
-    let host = host_from(memory);
     let copy = Held {
         stamp: Reading(stamp),
         source,
         order: order_from(kind, image, share),
     };
-    sent(
-        memory,
-        host::after_receive(host, Reading(u), link, hop, copy),
-    )
+    let answered = to_copy(memory, u, link, hop, copy);
+    if !answered.accepted {
+        return HostLeft {
+            memory,
+            answer: answered.number,
+        };
+    }
+    HostLeft {
+        memory: after_copy(memory, Reading(u), link, hop, copy),
+        answer: answered.number,
+    }
 }
 
-// What a start or a received copy leaves and answers.
-fn sent(memory: HostMemory, acted: Acted) -> HostLeft
-    ensures { λ r. ⌜ (r .memory ≡ cond (eqb (says (acted .answer) .refusal) 0) (hostMemory (acted .host)) memory) × (r .answer ≡ sendNumber (says (acted .answer))) ⌝ }
+fn after_copy(memory: HostMemory, u: Reading, link: u8, hop: u8, copy: Held) -> HostMemory
+    requires { ⌜ receiveRefusal (hostFrom memory) (u .0) link hop copy ≡ 0 ⌝ }
+    ensures { λ r. ⌜ r ≡ hostMemory (afterReceive (hostFrom memory) u copy) ⌝ }
 {
-    let answer = acted.answer;
-    match answer {
-        SendAnswer::Refused(refusal) => HostLeft {
-            memory,
-            answer: number_of(refusal) as u64,
-        },
-        SendAnswer::Sent { links, hop } => {
-            let host = acted.host;
-            HostLeft {
-                memory: host_memory(host),
-                answer: 256 * (hop as u64) + 65_536 * (links as u64),
-            }
-        }
+    let starts = memory.starts;
+    let history = memory.history;
+    let held = memory.held;
+    let plan = memory.plan;
+    HostMemory {
+        bound: memory.bound,
+        last: u,
+        own: memory.own,
+        started: memory.started,
+        held: held + 1,
+        starts,
+        history: with_held(history, held, held_memory(copy)),
+        plan,
+        rules: memory.rules,
+        d: memory.d,
     }
 }
 
 pub(crate) fn left_by_tick(memory: HostMemory, u: u64, out: &mut [u8]) -> HostLeft
     ensures { λ r. ⌜ (r .memory ≡ callLeft memory (record { 0 = u }) (ticks (length (now (out .entry))))) × ((r .answer ≡ tickNumber (tickSays (hostFrom memory) u (length (now (out .entry))))) × (now (out .exit) ≡ tickList (hostFrom memory) u (now (out .entry)))) ⌝ }
 {
-    let host = host_from(memory);
-    let ticked = host::after_tick(host, Reading(u), out);
-    let answer = ticked.answer;
-    match answer {
-        TickAnswer::Refused(refusal) => HostLeft {
+    let answered = to_tick(memory, u, out.len());
+    if !answered.accepted {
+        return HostLeft {
             memory,
-            answer: number_of(refusal) as u64,
-        },
-        TickAnswer::Delivered(count) => {
-            // Most ticks deliver nothing, and the memory need not be made anew.
-            if count == 0 {
-                return HostLeft {
-                    memory: later(memory, Reading(u)),
-                    answer: 0,
-                };
-            }
-            let after = ticked.host;
-            HostLeft {
-                memory: host_memory(after),
-                answer: 256 * (count as u64),
-            }
-        }
+            answer: answered.number,
+        };
+    }
+    // Most ticks deliver nothing.
+    if answered.number == 0 {
+        return HostLeft {
+            memory: later(memory, Reading(u)),
+            answer: 0,
+        };
+    }
+    HostLeft {
+        memory: after_tick(memory, Reading(u), out),
+        answer: answered.number,
+    }
+}
+
+fn after_tick(memory: HostMemory, u: Reading, out: &mut [u8]) -> HostMemory
+    requires { ⌜ tickRefusal (hostFrom memory) (u .0) (length (now out)) ≡ 0 ⌝ }
+    ensures { λ r. ⌜ (r ≡ hostMemory (afterTick (hostFrom memory) u)) × (now (out .exit) ≡ tickList (hostFrom memory) (u .0) (now (out .entry))) ⌝ }
+{
+    let starts = memory.starts;
+    let history = memory.history;
+    let plan = memory.plan;
+    let left = deliver(out, history, memory.held, memory.bound, u);
+    let rest = left.history;
+    HostMemory {
+        bound: memory.bound,
+        last: u,
+        own: memory.own,
+        started: memory.started,
+        held: left.held,
+        starts,
+        history: rest,
+        plan,
+        rules: memory.rules,
+        d: memory.d,
     }
 }

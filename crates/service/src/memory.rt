@@ -76,7 +76,7 @@ pub(crate) fn held_from(e: HeldMemory) -> Held
 }
 
 // A host's number, which has one byte.
-fn own_from(own: u64) -> u8
+pub(crate) fn own_from(own: u64) -> u8
     ensures { λ r. ⌜ r ≡ ownFrom own ⌝ }
 {
     if own < 8 { own as u8 } else { 255 }
@@ -110,7 +110,7 @@ pub(crate) fn host_memory(host: Host) -> HostMemory
     }
 }
 
-fn held_memory(x: Held) -> HeldMemory
+pub(crate) fn held_memory(x: Held) -> HeldMemory
     ensures { λ r. ⌜ r ≡ heldMemory x ⌝ }
 {
     let stamp = x.stamp;

@@ -8,6 +8,7 @@ use crate::places::is_started;
 use crate::places::is_unused;
 use clock::Reading;
 use host::Held;
+use host::Seen;
 use orders::same;
 ghost use mathlib.Core.Path.{_≡_};
 ghost use mathlib.Core.List.{[], _∷_};
@@ -55,13 +56,6 @@ pub(crate) fn is_history(
         i += 1;
     }
     true
-}
-
-// What is held under an order's name.
-pub(crate) struct Seen {
-    pub same: bool,
-    pub other: bool,
-    pub named: bool,
 }
 
 // Whether the order's name is held: for the same order, for another, for any. Orders are compared only under one name.

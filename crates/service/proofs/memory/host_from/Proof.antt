@@ -17,7 +17,6 @@ use Rattle.service.proofs.Converts.{fill-next, fill-blank, fill-all}
 use Rattle.service.proofs.memory.host_from.Statement.{statement}
 use Rattle.service.proofs.memory.host_from.Tie as tie
 
-
 abbrev Inv-loop : tie.InvT-loop
 Inv-loop memory places history₀ i₀ history i = (i ≤ 32) × (history ≡ pad 32 noHeld (map heldFrom (take i places)))
 

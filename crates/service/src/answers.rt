@@ -1,0 +1,117 @@
+// What each call of a host answers, by its flat memory: soundness is tested there, and the rules are the host's own.
+use crate::HeldMemory;
+use crate::HostMemory;
+use crate::changes::count_due;
+use crate::frames::frame_from;
+use crate::frames::is_sound;
+use crate::orders_in::order_from;
+use crate::places::is_due;
+use crate::walks::look;
+use clock::Reading;
+use host::Held;
+use host::SendAnswer;
+use host::TickAnswer;
+use host::number_of;
+ghost use mathlib.Core.Path.{_≡_};
+ghost use mathlib.Core.Bool.{true};
+ghost use Prim.Native.Nat.{_≤_};
+ghost use lib.Dec.{eqb};
+ghost use lib.ListN.{length, take};
+ghost use Rattle.lists.specs.Lists.{keep, rising};
+ghost use Rattle.host.specs.Answers.{says, saysTick};
+ghost use Rattle.host.specs.Start.{startRefusal, startSays};
+ghost use Rattle.host.specs.Receive.{receiveRefusal, receiveSays};
+ghost use Rattle.host.specs.Tick.{tickRefusal, tickSays};
+ghost use Rattle.service.specs.Memory.{orderFrom, copyFrom, hostFrom};
+ghost use Rattle.service.specs.Calls.{sendNumber, tickNumber};
+ghost use Rattle.service.specs.Inside.{beforeIn, dueIn};
+
+// Whether a call is accepted, and its answer as one number.
+pub(crate) struct Answered {
+    pub accepted: bool,
+    pub number: u64,
+}
+
+pub(crate) fn to_start(memory: HostMemory, u: u64, kind: u8, image: u32, share: u16) -> Answered
+    ensures { λ r. ⌜ (r .accepted ≡ eqb (startRefusal (hostFrom memory) u (orderFrom kind image share)) 0) × (r .number ≡ sendNumber (startSays (hostFrom memory) u (orderFrom kind image share))) ⌝ }
+{
+    if !is_sound(memory) {
+        return Answered {
+            accepted: false,
+            number: 9,
+        };
+    }
+    let order = order_from(kind, image, share);
+    sent(host::start_answer(frame_from(memory), Reading(u), order))
+}
+
+pub(crate) fn to_copy(memory: HostMemory, u: u64, link: u8, hop: u8, copy: Held) -> Answered
+    ensures { λ r. ⌜ (r .accepted ≡ eqb (receiveRefusal (hostFrom memory) u link hop copy) 0) × (r .number ≡ sendNumber (receiveSays (hostFrom memory) u link hop copy)) ⌝ }
+{
+    if !is_sound(memory) {
+        return Answered {
+            accepted: false,
+            number: 9,
+        };
+    }
+    let history = memory.history;
+    let seen = look(history, memory.held, copy);
+    sent(host::receive_answer(frame_from(memory), Reading(u), link, hop, copy, seen))
+}
+
+fn sent(answer: SendAnswer) -> Answered
+    ensures { λ r. ⌜ (r .accepted ≡ eqb (says answer .refusal) 0) × (r .number ≡ sendNumber (says answer)) ⌝ }
+{
+    match answer {
+        SendAnswer::Refused(refusal) => Answered {
+            accepted: false,
+            number: number_of(refusal) as u64,
+        },
+        SendAnswer::Sent { links, hop } => Answered {
+            accepted: true,
+            number: 256 * (hop as u64) + 65_536 * (links as u64),
+        },
+    }
+}
+
+pub(crate) fn to_tick(memory: HostMemory, u: u64, room: usize) -> Answered
+    ensures { λ r. ⌜ (r .accepted ≡ eqb (tickRefusal (hostFrom memory) u room) 0) × (r .number ≡ tickNumber (tickSays (hostFrom memory) u room)) ⌝ }
+{
+    if !is_sound(memory) {
+        return Answered {
+            accepted: false,
+            number: 9,
+        };
+    }
+    let history = memory.history;
+    let count = due_count(history, memory.held, memory.bound, Reading(u));
+    ticked(host::tick_answer(frame_from(memory), Reading(u), room, count))
+}
+
+// How many are due. At most ticks none is, and the first of those held tells.
+fn due_count(history: [HeldMemory; 32], held: usize, bound: u64, u: Reading) -> usize
+    requires { ⌜ (held ≤ 32) × (rising beforeIn (take held history) ≡ true) ⌝ }
+    ensures { λ r. ⌜ (r ≡ length (keep (dueIn bound (u .0)) (take held history))) × (r ≤ held) ⌝ }
+{
+    let first = history[0];
+    if (held == 0) | !is_due(first, bound, u) {
+        return 0;
+    }
+    count_due(history, held, bound, u)
+}
+
+fn ticked(answer: TickAnswer) -> Answered
+    requires { ⌜ saysTick answer .count ≤ 32 ⌝ }
+    ensures { λ r. ⌜ (r .accepted ≡ eqb (saysTick answer .refusal) 0) × (r .number ≡ tickNumber (saysTick answer)) ⌝ }
+{
+    match answer {
+        TickAnswer::Refused(refusal) => Answered {
+            accepted: false,
+            number: number_of(refusal) as u64,
+        },
+        TickAnswer::Delivered(count) => Answered {
+            accepted: true,
+            number: 256 * (count as u64),
+        },
+    }
+}
