@@ -56,6 +56,17 @@ module _ (f : HostMemory) where
         all-of heldFrom isNoHeld (drop (f .held) (f .history)),
       )
 
+  -- ---- the order of those held, and the places behind them, in a sound state
+
+  pub rise-in : SoundIs h → rising beforeIn l ≡ true
+  rise-in s = sym (ap (rising before) held-in ∙ rising-of heldFrom before l) ∙ s .rise
+
+  pub unused-in : SoundIs h → all unusedIn (drop (f .held) (f .history)) ≡ true
+  unused-in s = sym (ap (all isNoHeld) (drop-map heldFrom (f .held) (f .history)) ∙ all-of heldFrom isNoHeld (drop (f .held) (f .history))) ∙ s .history-unused
+
+  pub sized-in : length (f .starts) ≡ 4 → length (f .history) ≡ 32 → Sized h
+  sized-in starts history = record { starts = starts; history = length-map (f .history) heldFrom ∙ history }
+
   -- ---- what is held under a name, and what is due
 
   any-in : (p : Held → Bool) → any p (heldOf h) ≡ any (λ (e : HeldMemory). p (heldFrom e)) l
