@@ -1,31 +1,45 @@
+-- A refused start keeps the memory; else it is what the start leaves. Assumes nothing.
 use borrow.Author.Needs.{needs}
+use mathlib.Core.Path.{_≡_, refl, sym, ap, _∙_}
+use mathlib.Core.Bool.{true, false}
+use borrow.Author.Tests.{not-true, not-false, eqb-true}
+use lib.Dec.{eqb}
+use Rattle.clock.specs.declared.Reading.{Reading}
+use Rattle.orders.specs.declared.Order.{Order}
+use Rattle.host.specs.Start.{startRefusal, afterStart}
+use Rattle.host.proofs.Outcomes.{accepted}
+use Rattle.service.specs.declared.HostMemory.{HostMemory}
+use Rattle.service.specs.Memory.{orderFrom, hostFrom, hostMemory}
 use Rattle.service.proofs.calls.left_by_start.Statement.{statement}
 use Rattle.service.proofs.calls.left_by_start.Tie as tie
-use Rattle.service.proofs.calls.left_by_start.Reads as reads
-use Rattle.service.proofs.calls.left_by_start.Lts as lts
-use Rattle.service.proofs.answers.to_start.Reads as to-start-reads
-use Rattle.service.proofs.calls.after_start.Reads as after-start-reads
-use Rattle.service.proofs.orders_in.order_from.Reads as order-from-reads
 
--- src/calls.rt:62:9
 to-start-requires : tie.Need-to-start-requires
 to-start-requires c κs = search needs
 
--- src/calls.rt:64:9
 returns : tie.Need-returns
-returns c = ?
+returns c =
+    let a = c .before .before .before .args in
+    let t = c .before .before .to-start in
+    let no : eqb (startRefusal (hostFrom (a .memory)) (a .u) (orderFrom (a .kind) (a .image) (a .share))) 0 ≡ false = sym (t .ensures .0) ∙ not-true _ (c .if1 .taken) in
+    (rw no, t .ensures .1)
 
--- src/calls.rt:69:9
 order-from-requires : tie.Need-order-from-requires
 order-from-requires c κs = search needs
 
--- src/calls.rt:71:17
 after-start-requires : tie.Need-after-start-requires
-after-start-requires c κs = ?
+after-start-requires c κs =
+    let a = c .before .before .before .before .args in
+    ap (startRefusal (hostFrom (a .memory)) (a .u)) (c .order-from .ensures) ∙ eqb-true _ 0 (sym (c .before .before .before .to-start .ensures .0) ∙ not-false _ (c .before .if1 .left))
 
--- src/calls.rt:53:1
 returns-2 : tie.Need-returns-2
-returns-2 c = ?
+returns-2 c =
+    let a = c .before .before .before .before .before .args in
+    let t = c .before .before .before .before .to-start in
+    let u : Reading = record { 0 = a .u } in
+    let after : Order → HostMemory = λ o. hostMemory (afterStart (hostFrom (a .memory)) u o) in
+    let o : Order = orderFrom (a .kind) (a .image) (a .share) in
+    let zero : startRefusal (hostFrom (a .memory)) (a .u) o ≡ 0 = eqb-true _ 0 (sym (t .ensures .0) ∙ not-false _ (c .before .before .if1 .left)) in
+    (c .after-start .ensures ∙ ap after (c .before .order-from .ensures) ∙ sym (accepted _ (after o) (a .memory) zero), t .ensures .1)
 
 pub left-by-start-spec : {M : Type 1} → statement M
 left-by-start-spec =
