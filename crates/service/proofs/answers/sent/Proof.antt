@@ -1,53 +1,58 @@
+-- A refusal has its number, which is not 0; else the hop and the links stand above the refusal's byte. Assumes nothing.
 use borrow.Author.Needs.{needs}
+use mathlib.Core.Path.{_≡_, sym, ap, _∙_}
+use Prim.Native.Nat.{_+_, _*_}
+use native.Mathlib.Omega.{arith}
+use lib.Dec.{eqb}
+use Rattle.host.specs.declared.SendAnswer.{SendAnswer}
+use Rattle.host.specs.declared.SendAnswer.the-variants.{Refused, Sent}
+use Rattle.host.specs.Answers.{number, says}
+use Rattle.host.proofs.Numbers.{not-none}
+use Rattle.service.specs.Calls.{sendNumber}
 use Rattle.service.proofs.answers.sent.Statement.{statement}
 use Rattle.service.proofs.answers.sent.Tie as tie
-use Rattle.service.proofs.answers.sent.Reads as reads
-use Rattle.service.proofs.answers.sent.Lts as lts
-use Rattle.host.proofs.number_of.Reads as number-of-reads
 
--- src/answers.rt:66:29
 enum-known-answer : tie.Need-enum-known-answer
 enum-known-answer c = search needs
 
--- src/answers.rt:68:21
 number-of-requires : tie.Need-number-of-requires
 number-of-requires c κs = search needs
 
--- src/answers.rt:68:21
 cast-t7 : tie.Need-cast-t7
 cast-t7 c = search needs
 
--- src/answers.rt:70:28
 enum-known-answer-2 : tie.Need-enum-known-answer-2
 enum-known-answer-2 c = search needs
 
--- src/answers.rt:72:28
 cast-t8 : tie.Need-cast-t8
 cast-t8 c = search needs
 
--- src/answers.rt:72:21
 mul-t9 : tie.Need-mul-t9
 mul-t9 c = search needs
 
--- src/answers.rt:72:52
 cast-t10 : tie.Need-cast-t10
 cast-t10 c = search needs
 
--- src/answers.rt:72:42
 mul-t11 : tie.Need-mul-t11
 mul-t11 c = search needs
 
--- src/answers.rt:72:21
 add-t12 : tie.Need-add-t12
 add-t12 c = search needs
 
--- src/answers.rt:62:1
 returns : tie.Need-returns
-returns c = ?
+returns c =
+    let w = c .before .before .answer .given .0 .0 in
+    let is = c .before .before .answer .given .1 in
+    let whole : number w ≡ sendNumber (says (Refused w)) = omega arith in
+    (sym (not-none w) ∙ ap (λ (s : SendAnswer). eqb (says s .refusal) 0) (sym is), c .number-of .ensures ∙ whole ∙ ap (λ (s : SendAnswer). sendNumber (says s)) (sym is))
 
--- src/answers.rt:62:1
 returns-2 : tie.Need-returns-2
-returns-2 c = ?
+returns-2 c =
+    let links = c .before .answer2 .given .0 .0 in
+    let hop = c .before .answer2 .given .0 .1 .0 in
+    let is = c .before .answer2 .given .1 in
+    let whole : 256 * hop + 65536 * links ≡ sendNumber (says (Sent links hop)) = omega arith in
+    (ap (λ (s : SendAnswer). eqb (says s .refusal) 0) (sym is), whole ∙ ap (λ (s : SendAnswer). sendNumber (says s)) (sym is))
 
 pub sent-spec : {M : Type 1} → statement M
 sent-spec =

@@ -1,46 +1,49 @@
+-- A refusal has its number, which is not 0; else the count stands above the refusal's byte. Assumes nothing.
 use borrow.Author.Needs.{needs}
+use mathlib.Core.Path.{_≡_, sym, ap, _∙_}
+use Prim.Native.Nat.{_*_}
+use native.Mathlib.Omega.{arith}
+use lib.Dec.{eqb}
+use Rattle.host.specs.declared.TickAnswer.{TickAnswer}
+use Rattle.host.specs.declared.TickAnswer.the-variants.{Refused, Delivered}
+use Rattle.host.specs.Answers.{number, saysTick}
+use Rattle.host.proofs.Numbers.{not-none}
+use Rattle.service.specs.Calls.{tickNumber}
 use Rattle.service.proofs.answers.ticked.Statement.{statement}
 use Rattle.service.proofs.answers.ticked.Tie as tie
-use Rattle.service.proofs.answers.ticked.Reads as reads
-use Rattle.service.proofs.answers.ticked.Lts as lts
-use Rattle.host.proofs.number_of.Reads as number-of-reads
 
--- src/answers.rt:108:29
 enum-known-answer : tie.Need-enum-known-answer
 enum-known-answer c = search needs
 
--- src/answers.rt:110:21
 number-of-requires : tie.Need-number-of-requires
 number-of-requires c κs = search needs
 
--- src/answers.rt:110:21
 cast-t6 : tie.Need-cast-t6
 cast-t6 c = search needs
 
--- src/answers.rt:112:31
 enum-known-answer-2 : tie.Need-enum-known-answer-2
 enum-known-answer-2 c = search needs
 
--- src/answers.rt:114:21
 mul-t8 : tie.Need-mul-t8
-mul-t8 c = ?
+mul-t8 c =
+    let few = c .before .before .before .pre in
+    let n = ap (λ (s : TickAnswer). saysTick s .count) (c .before .answer2 .given .1) in
+    omega (arith, few, n)
 
--- src/answers.rt:103:1
 returns : tie.Need-returns
-returns c = ?
+returns c =
+    let w = c .before .before .answer .given .0 .0 in
+    let is = c .before .before .answer .given .1 in
+    let whole : number w ≡ tickNumber (saysTick (Refused w)) = omega arith in
+    (sym (not-none w) ∙ ap (λ (s : TickAnswer). eqb (saysTick s .refusal) 0) (sym is), c .number-of .ensures ∙ whole ∙ ap (λ (s : TickAnswer). tickNumber (saysTick s)) (sym is))
 
--- src/answers.rt:103:1
 returns-2 : tie.Need-returns-2
-returns-2 c = ?
+returns-2 c =
+    let n = c .before .answer2 .given .0 .0 in
+    let is = c .before .answer2 .given .1 in
+    let whole : 256 * n ≡ tickNumber (saysTick (Delivered n)) = omega arith in
+    (ap (λ (s : TickAnswer). eqb (saysTick s .refusal) 0) (sym is), whole ∙ ap (λ (s : TickAnswer). tickNumber (saysTick s)) (sym is))
 
 pub ticked-spec : {M : Type 1} → statement M
 ticked-spec =
-    tie.close
-    (tie.spec
-    enum-known-answer
-    number-of-requires
-    cast-t6
-    enum-known-answer-2
-    mul-t8
-    returns
-    returns-2)
+    tie.close (tie.spec enum-known-answer number-of-requires cast-t6 enum-known-answer-2 mul-t8 returns returns-2)

@@ -1,41 +1,66 @@
+-- Memory that stands for no sound state is refused 9; else the host's own answer is taken, by the frame and what is held under the name. Assumes nothing.
 use borrow.Author.Needs.{needs}
+use mathlib.Core.Path.{_≡_, sym, ap, _∙_}
+use mathlib.Core.Bool.{true, false}
+use Prim.Native.Nat.{ℕ}
+use borrow.Author.Tests.{not-true, not-false}
+use lib.Dec.{eqb}
+use Rattle.lists.specs.Lists.{any}
+use Rattle.host.specs.declared.Host.{Host}
+use Rattle.host.specs.declared.Refusal.the-variants.{Unsound}
+use Rattle.host.specs.Answers.{Said, says}
+use Rattle.host.specs.State.{sound, heldOf, sameName}
+use Rattle.host.specs.Receive.{sameHeld, otherHeld, receiveTests, receiveChecks, receiveRefusal, receiveSays}
+use Rattle.host.proofs.Answered.{unsound-first, receive-said}
+use Rattle.host.proofs.Facts.{sound-is}
+use Rattle.host.proofs.Numbers.{says-refused, said-refusal}
+use Rattle.service.specs.Memory.{hostFrom}
+use Rattle.service.specs.Calls.{sendNumber}
+use Rattle.service.proofs.Flats.{same-in, other-in, named-in}
 use Rattle.service.proofs.answers.to_copy.Statement.{statement}
 use Rattle.service.proofs.answers.to_copy.Tie as tie
-use Rattle.service.proofs.answers.to_copy.Reads as reads
-use Rattle.service.proofs.answers.to_copy.Lts as lts
-use Rattle.host.proofs.receive_answer.Reads as receive-answer-reads
-use Rattle.service.proofs.answers.sent.Reads as sent-reads
-use Rattle.service.proofs.frames.frame_from.Reads as frame-from-reads
-use Rattle.service.proofs.frames.is_sound.Reads as is-sound-reads
-use Rattle.service.proofs.walks.look.Reads as look-reads
 
--- src/answers.rt:51:9
 is-sound-requires : tie.Need-is-sound-requires
 is-sound-requires c κs = search needs
 
--- src/answers.rt:52:9
 returns : tie.Need-returns
-returns c = ?
+unfolding receiveTests
+returns c =
+    let a = c .before .before .args in
+    let h : Host = hostFrom (a .memory) in
+    let x = a .copy in
+    let no : sound h ≡ false = sym (c .before .is-sound .ensures) ∙ not-true _ (c .if1 .taken) in
+    let e = unsound-first h (receiveChecks h (a .u) (a .link) (a .hop) x (any (sameHeld x) (heldOf h)) (any (otherHeld x) (heldOf h)) (any (sameName x) (heldOf h))) no in
+    (ap (λ (k : ℕ). eqb k 0) e, ap sendNumber (says-refused Unsound _ _ _ e))
 
--- src/answers.rt:58:9
 look-requires : tie.Need-look-requires
-look-requires c κs = ?
+look-requires c κs =
+    let yes : sound (hostFrom (c .before .before .before .args .memory)) ≡ true = sym (c .before .before .is-sound .ensures) ∙ not-false _ (c .before .if1 .left) in
+    sound-is (hostFrom (c .before .before .before .args .memory)) yes .held
 
--- src/answers.rt:59:31
 frame-from-requires : tie.Need-frame-from-requires
 frame-from-requires c κs = search needs
 
--- src/answers.rt:59:10
 receive-answer-requires : tie.Need-receive-answer-requires
 receive-answer-requires c κs = search needs
 
--- src/answers.rt:59:5
 sent-requires : tie.Need-sent-requires
 sent-requires c κs = search needs
 
--- src/answers.rt:48:1
 returns-2 : tie.Need-returns-2
-returns-2 c = ?
+returns-2 c =
+    let a = c .before .before .before .before .before .before .before .args in
+    let f = a .memory in
+    let h : Host = hostFrom f in
+    let x = a .copy in
+    let seen = c .before .before .before .look .ensures in
+    let frame = c .before .before .frame-from in
+    let yes : sound h ≡ true = sym (c .before .before .before .before .before .before .is-sound .ensures) ∙ not-false _ (c .before .before .before .before .before .if1 .left) in
+    let said : says (c .before .receive-answer .result) ≡ receiveSays h (a .u) (a .link) (a .hop) x =
+    receive-said h (a .u) (a .link) (a .hop) x (frame .result) _ _ _ yes (frame .ensures)
+    (seen .0 ∙ sym (same-in f x), (seen .1 .0 ∙ sym (other-in f x), seen .1 .1 ∙ sym (named-in f x)))
+    (c .before .receive-answer .ensures) in
+    (c .sent .ensures .0 ∙ ap (λ (s : Said). eqb (s .refusal) 0) said ∙ ap (λ (k : ℕ). eqb k 0) (said-refusal (receiveRefusal h (a .u) (a .link) (a .hop) x) _ _), c .sent .ensures .1 ∙ ap sendNumber said)
 
 pub to-copy-spec : {M : Type 1} → statement M
 to-copy-spec =

@@ -1,41 +1,58 @@
+-- Memory that stands for no sound state is refused 9; else the host's own answer is taken, by the frame. Assumes nothing.
 use borrow.Author.Needs.{needs}
+use mathlib.Core.Path.{_≡_, sym, ap, _∙_}
+use mathlib.Core.Bool.{true, false}
+use Prim.Native.Nat.{ℕ}
+use borrow.Author.Tests.{not-true, not-false}
+use lib.Dec.{eqb}
+use Rattle.orders.specs.declared.Order.{Order}
+use Rattle.host.specs.declared.Host.{Host}
+use Rattle.host.specs.declared.Refusal.the-variants.{Unsound}
+use Rattle.host.specs.Answers.{Said, says}
+use Rattle.host.specs.State.{sound}
+use Rattle.host.specs.Start.{startTests, startChecks, startRefusal, startSays}
+use Rattle.host.proofs.Answered.{unsound-first, start-said}
+use Rattle.host.proofs.Numbers.{says-refused, said-refusal}
+use Rattle.service.specs.Memory.{hostFrom, orderFrom}
+use Rattle.service.specs.Calls.{sendNumber}
 use Rattle.service.proofs.answers.to_start.Statement.{statement}
 use Rattle.service.proofs.answers.to_start.Tie as tie
-use Rattle.service.proofs.answers.to_start.Reads as reads
-use Rattle.service.proofs.answers.to_start.Lts as lts
-use Rattle.host.proofs.start_answer.Reads as start-answer-reads
-use Rattle.service.proofs.answers.sent.Reads as sent-reads
-use Rattle.service.proofs.frames.frame_from.Reads as frame-from-reads
-use Rattle.service.proofs.frames.is_sound.Reads as is-sound-reads
-use Rattle.service.proofs.orders_in.order_from.Reads as order-from-reads
 
--- src/answers.rt:38:9
 is-sound-requires : tie.Need-is-sound-requires
 is-sound-requires c κs = search needs
 
--- src/answers.rt:39:9
 returns : tie.Need-returns
-returns c = ?
+unfolding startTests
+returns c =
+    let a = c .before .before .args in
+    let h : Host = hostFrom (a .memory) in
+    let o : Order = orderFrom (a .kind) (a .image) (a .share) in
+    let no : sound h ≡ false = sym (c .before .is-sound .ensures) ∙ not-true _ (c .if1 .taken) in
+    let e = unsound-first h (startChecks h (a .u) o) no in
+    (ap (λ (k : ℕ). eqb k 0) e, ap sendNumber (says-refused Unsound _ _ _ e))
 
--- src/answers.rt:44:9
 order-from-requires : tie.Need-order-from-requires
 order-from-requires c κs = search needs
 
--- src/answers.rt:45:29
 frame-from-requires : tie.Need-frame-from-requires
 frame-from-requires c κs = search needs
 
--- src/answers.rt:45:10
 start-answer-requires : tie.Need-start-answer-requires
 start-answer-requires c κs = search needs
 
--- src/answers.rt:45:5
 sent-requires : tie.Need-sent-requires
 sent-requires c κs = search needs
 
--- src/answers.rt:35:1
 returns-2 : tie.Need-returns-2
-returns-2 c = ?
+returns-2 c =
+    let a = c .before .before .before .before .before .before .args in
+    let h : Host = hostFrom (a .memory) in
+    let o : Order = orderFrom (a .kind) (a .image) (a .share) in
+    let order = c .before .before .before .order-from in
+    let frame = c .before .before .frame-from in
+    let yes : sound h ≡ true = sym (c .before .before .before .before .before .is-sound .ensures) ∙ not-false _ (c .before .before .before .before .if1 .left) in
+    let said : says (c .before .start-answer .result) ≡ startSays h (a .u) o = start-said h (a .u) (order .result) (frame .result) yes (frame .ensures) (c .before .start-answer .ensures) ∙ ap (startSays h (a .u)) (order .ensures) in
+    (c .sent .ensures .0 ∙ ap (λ (s : Said). eqb (s .refusal) 0) said ∙ ap (λ (k : ℕ). eqb k 0) (said-refusal (startRefusal h (a .u) o) _ _), c .sent .ensures .1 ∙ ap sendNumber said)
 
 pub to-start-spec : {M : Type 1} → statement M
 to-start-spec =

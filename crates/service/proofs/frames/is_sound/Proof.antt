@@ -1,50 +1,47 @@
+-- The frame is that of the state, and says the same of it; then the places decide. Assumes nothing.
 use borrow.Author.Needs.{needs}
+use mathlib.Core.Path.{_≡_, sym, ap, _∙_}
+use mathlib.Core.Bool.{Bool, true, false, _&&_}
+use borrow.Author.Tests.{not-true, not-false}
+use Rattle.lists.specs.Tests.{allOf}
+use Rattle.host.specs.declared.Frame.{Frame}
+use Rattle.host.specs.State.{frameTests, historyTests, framed, bare}
+use Rattle.service.specs.Memory.{hostFrom}
+use Rattle.service.proofs.Flats.{history-in}
 use Rattle.service.proofs.frames.is_sound.Statement.{statement}
 use Rattle.service.proofs.frames.is_sound.Tie as tie
-use Rattle.service.proofs.frames.is_sound.Reads as reads
-use Rattle.service.proofs.frames.is_sound.Lts as lts
-use Rattle.host.proofs.is_framed.Reads as is-framed-reads
-use Rattle.host.proofs.newest.Reads as newest-reads
-use Rattle.service.proofs.frames.frame_from.Reads as frame-from-reads
-use Rattle.service.proofs.memory.own_from.Reads as own-from-reads
-use Rattle.service.proofs.walks.is_history.Reads as is-history-reads
 
--- src/frames.rt:34:19
 frame-from-requires : tie.Need-frame-from-requires
 frame-from-requires c κs = search needs
 
--- src/frames.rt:34:9
 is-framed-requires : tie.Need-is-framed-requires
 is-framed-requires c κs = search needs
 
--- src/frames.rt:35:9
 returns : tie.Need-returns
-returns c = ?
+unfolding frameTests
+returns c =
+    let f = c .before .before .before .args .memory in
+    let no : framed (hostFrom f) ≡ false = sym (ap (λ (g : Frame). framed (bare g)) (c .before .before .frame-from .ensures)) ∙ sym (c .before .is-framed .ensures) ∙ not-true _ (c .if1 .taken) in
+    sym (ap (λ (t : Bool). t && allOf (historyTests (hostFrom f))) no)
 
--- src/frames.rt:45:9
 own-from-requires : tie.Need-own-from-requires
 own-from-requires c κs = search needs
 
--- src/frames.rt:47:9
 newest-requires : tie.Need-newest-requires
 newest-requires c κs = search needs
 
--- src/frames.rt:41:5
 is-history-requires : tie.Need-is-history-requires
 is-history-requires c κs = search needs
 
--- src/frames.rt:31:1
 returns-2 : tie.Need-returns-2
-returns-2 c = ?
+unfolding frameTests
+returns-2 c =
+    let f = c .before .before .before .before .before .before .before .before .before .args .memory in
+    let yes : framed (hostFrom f) ≡ true = sym (ap (λ (g : Frame). framed (bare g)) (c .before .before .before .before .before .before .before .before .frame-from .ensures)) ∙ sym (c .before .before .before .before .before .before .before .is-framed .ensures) ∙ not-false _ (c .before .before .before .before .before .before .if1 .left) in
+    rw (c .before .before .own-from .ensures, c .before .newest .ensures) at (c .is-history .ensures)
+    ∙ sym (history-in f)
+    ∙ sym (ap (λ (t : Bool). t && allOf (historyTests (hostFrom f))) yes)
 
 pub is-sound-spec : {M : Type 1} → statement M
 is-sound-spec =
-    tie.close
-    (tie.spec
-    frame-from-requires
-    is-framed-requires
-    returns
-    own-from-requires
-    newest-requires
-    is-history-requires
-    returns-2)
+    tie.close (tie.spec frame-from-requires is-framed-requires returns own-from-requires newest-requires is-history-requires returns-2)
