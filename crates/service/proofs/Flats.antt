@@ -1,5 +1,5 @@
 -- What the host's definitions say of a flat history, said of its places; and the memory of the state that a call leaves. Assumes nothing.
-use mathlib.Core.Path.{_≡_, refl, sym, ap, ap₂, _∙_, subst}
+use mathlib.Core.Path.{_≡_, sym, ap, ap₂, _∙_, subst}
 use mathlib.Core.Bool.{Bool, true, not}
 use mathlib.Core.List.{List, [], _∷_, map}
 use Prim.Native.Nat.{ℕ, _+_, _-_, _≤_}
@@ -20,7 +20,7 @@ use Rattle.host.specs.declared.Host.{Host}
 use Rattle.host.specs.State.{noHeld, noReading, isNoHeld, heldOf, startsOf, lastStart, fits, before, ownStarted, sameName, historyTests, sound, with, Sized}
 use Rattle.host.specs.Start.{startRefusal, withStart, startOf, afterStart}
 use Rattle.host.specs.Receive.{sameHeld, otherHeld, receiveRefusal, afterReceive}
-use Rattle.host.specs.Tick.{due, dueOf, waitingOf, written, tickRefusal, afterTick}
+use Rattle.host.specs.Tick.{due, dueOf, waitingOf, tickRefusal, afterTick}
 use Rattle.host.specs.Calls.{Call, start, receive, ticks, refusal, becomes}
 use Rattle.host.proofs.Facts.{SoundIs, sound-is, is-sound, start-is, receive-is, tick-is}
 use Rattle.host.proofs.Outcomes.{accepted, sound-is-kept}
@@ -30,7 +30,7 @@ use Rattle.service.specs.declared.HostMemory.{HostMemory}
 use Rattle.service.specs.Memory.{heldFrom, ownFrom, hostFrom, heldMemory, hostMemory}
 use Rattle.service.specs.Inside.{memoryWith, fitsIn, beforeIn, startedIn, unusedIn, namedIn, sameIn, otherIn, dueIn, waitsIn, none}
 use Rattle.service.proofs.Maps.{take-map, drop-map, all-of, any-of, rising-of, keep-of, insert-of, pad-of}
-use Rattle.service.proofs.Back.{holds, all-hold, low, held-back, places-there, own-there}
+use Rattle.service.proofs.Back.{all-hold, low, held-back, places-there, own-there}
 
 module _ (f : HostMemory) where
   abbrev h : Host

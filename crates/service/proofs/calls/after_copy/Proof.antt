@@ -1,8 +1,7 @@
 -- The copy stands in its place among those held, and nothing else changes but the last reading. Assumes nothing.
 use borrow.Author.Needs.{needs}
 use native.Mathlib.Omega.{arith}
-use mathlib.Core.Path.{_≡_, sym, ap, _∙_}
-use mathlib.Core.List.{List}
+use mathlib.Core.Path.{sym, ap, _∙_}
 use Prim.Native.Nat.{_+_, _<_}
 use lib.ListN.{length-map, take}
 use Rattle.lists.specs.Lists.{insert, pad}

@@ -1,11 +1,12 @@
 -- A refused start keeps the memory; else it is what the start leaves. Assumes nothing.
 use borrow.Author.Needs.{needs}
-use mathlib.Core.Path.{_≡_, refl, sym, ap, _∙_}
-use mathlib.Core.Bool.{true, false}
+use mathlib.Core.Path.{_≡_, sym, ap, _∙_}
+use mathlib.Core.Bool.{false}
 use borrow.Author.Tests.{not-true, not-false, eqb-true}
 use lib.Dec.{eqb}
 use Rattle.clock.specs.declared.Reading.{Reading}
 use Rattle.orders.specs.declared.Order.{Order}
+use Rattle.host.specs.declared.Host.{Host}
 use Rattle.host.specs.Start.{startRefusal, afterStart}
 use Rattle.host.proofs.Outcomes.{accepted}
 use Rattle.service.specs.declared.HostMemory.{HostMemory}
@@ -29,16 +30,18 @@ order-from-requires c κs = search needs
 after-start-requires : tie.Need-after-start-requires
 after-start-requires c κs =
     let a = c .before .before .before .before .args in
-    ap (startRefusal (hostFrom (a .memory)) (a .u)) (c .order-from .ensures) ∙ eqb-true _ 0 (sym (c .before .before .before .to-start .ensures .0) ∙ not-false _ (c .before .if1 .left))
+    let t = c .before .before .before .to-start in
+    ap (startRefusal (hostFrom (a .memory)) (a .u)) (c .order-from .ensures) ∙ eqb-true _ 0 (sym (t .ensures .0) ∙ not-false _ (c .before .if1 .left))
 
 returns-2 : tie.Need-returns-2
 returns-2 c =
     let a = c .before .before .before .before .before .args in
     let t = c .before .before .before .before .to-start in
     let u : Reading = record { 0 = a .u } in
-    let after : Order → HostMemory = λ o. hostMemory (afterStart (hostFrom (a .memory)) u o) in
+    let h : Host = hostFrom (a .memory) in
     let o : Order = orderFrom (a .kind) (a .image) (a .share) in
-    let zero : startRefusal (hostFrom (a .memory)) (a .u) o ≡ 0 = eqb-true _ 0 (sym (t .ensures .0) ∙ not-false _ (c .before .before .if1 .left)) in
+    let after : Order → HostMemory = λ x. hostMemory (afterStart h u x) in
+    let zero : startRefusal h (a .u) o ≡ 0 = eqb-true _ 0 (sym (t .ensures .0) ∙ not-false _ (c .before .before .if1 .left)) in
     (c .after-start .ensures ∙ ap after (c .before .order-from .ensures) ∙ sym (accepted _ (after o) (a .memory) zero), t .ensures .1)
 
 pub left-by-start-spec : {M : Type 1} → statement M

@@ -1,8 +1,8 @@
 -- A refused tick keeps memory and list; so does one that delivers nothing, but for the last reading; else both are what the tick leaves. Assumes nothing.
 use borrow.Author.Needs.{needs}
 use native.Mathlib.Omega.{arith}
-use mathlib.Core.Path.{_≡_, refl, sym, ap, _∙_}
-use mathlib.Core.Bool.{true, false}
+use mathlib.Core.Path.{_≡_, sym, ap, _∙_}
+use mathlib.Core.Bool.{false}
 use Prim.Native.Nat.{ℕ, _+_, _*_}
 use borrow.Author.Tests.{not-true, not-false, eqb-true}
 use lib.Dec.{eqb}
@@ -44,7 +44,7 @@ returns-2 c =
     let zero : tickRefusal h (a .u) room ≡ 0 = eqb-true _ 0 (sym (t .ensures .0) ∙ not-false _ (c .before .before .before .if1 .left)) in
     let whole : 0 ≡ tickNumber (tickSays h (a .u) room) = sym (c .before .if2 .taken) ∙ t .ensures .1 in
     let count : 0 ≡ 0 + 256 * length (dueOf h (a .u)) = whole ∙ ap (λ (k : ℕ). tickNumber (saidByTick k (length (dueOf h (a .u))))) zero in
-    let none : length (dueOf h (a .u)) ≡ 0 = omega (arith, count) in (
+    let none : length (dueOf h (a .u)) ≡ 0 = omega arith in (
       c .later .ensures
           ∙ still (a .memory) u long (tick-is h (a .u) room zero .sound) none
           ∙ sym (accepted _ (hostMemory (afterTick h u)) (a .memory) zero),
@@ -63,8 +63,9 @@ returns-3 c =
     let t = c .before .before .before .before .before .before .before .before .to-tick in
     let r = c .before .before .after-tick in
     let u : Reading = record { 0 = a .u } in
-    let zero : tickRefusal (hostFrom (a .memory)) (a .u) (length (a .out .now)) ≡ 0 = eqb-true _ 0 (sym (t .ensures .0) ∙ not-false _ (c .before .before .before .before .before .before .if1 .left)) in
-    (r .ensures .0 ∙ sym (accepted _ (hostMemory (afterTick (hostFrom (a .memory)) u)) (a .memory) zero), (t .ensures .1, r .ensures .1))
+    let h : Host = hostFrom (a .memory) in
+    let zero : tickRefusal h (a .u) (length (a .out .now)) ≡ 0 = eqb-true _ 0 (sym (t .ensures .0) ∙ not-false _ (c .before .before .before .before .before .before .if1 .left)) in
+    (r .ensures .0 ∙ sym (accepted _ (hostMemory (afterTick h u)) (a .memory) zero), (t .ensures .1, r .ensures .1))
 
 pub left-by-tick-spec : {M : Type 1} → statement M
 left-by-tick-spec =
