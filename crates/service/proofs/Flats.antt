@@ -56,6 +56,9 @@ module _ (f : HostMemory) where
         all-of heldFrom isNoHeld (drop (f .held) (f .history)),
       )
 
+  pub rise-in : SoundIs h → rising beforeIn l ≡ true
+  rise-in s = sym (rising-of heldFrom before l) ∙ ap (rising before) (sym held-in) ∙ s .rise
+
   -- ---- what is held under a name, and what is due
 
   any-in : (p : Held → Bool) → any p (heldOf h) ≡ any (λ (e : HeldMemory). p (heldFrom e)) l
