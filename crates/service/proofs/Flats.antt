@@ -59,7 +59,7 @@ module _ (f : HostMemory) where
   -- ---- the order of those held, and the places behind them, in a sound state
 
   pub rise-in : SoundIs h → rising beforeIn l ≡ true
-  rise-in s = sym (ap (rising before) held-in ∙ rising-of heldFrom before l) ∙ s .rise
+  rise-in s = sym (rising-of heldFrom before l) ∙ ap (rising before) (sym held-in) ∙ s .rise
 
   pub unused-in : SoundIs h → all unusedIn (drop (f .held) (f .history)) ≡ true
   unused-in s = sym (ap (all isNoHeld) (drop-map heldFrom (f .held) (f .history)) ∙ all-of heldFrom isNoHeld (drop (f .held) (f .history))) ∙ s .history-unused

@@ -32,6 +32,14 @@ said-tick k count = go (eqb k 0) refl
     go true e = sym (eqb-true k 0 e)
     go false e = refl
 
+-- a tick answers no more than are due
+pub said-few : (k n : ℕ) (s : SaidTick) → s ≡ saidByTick k n → s .count ≤ n
+said-few k n s e = let c = ap (λ (t : SaidTick). t .count) e in go (eqb k 0) c
+  where
+    go : (b : Bool) → s .count ≡ cond {A = SaidTick} b (record { refusal = 0; count = n }) (record { refusal = k; count = 0 }) .count → s .count ≤ n
+    go true c = omega arith
+    go false c = omega arith
+
 -- the memory of the state that was given back, or the memory as it was
 module _ (f : HostMemory) (j k : ℕ) (after other given : Host) (is : given ≡ unless k after other) (same : j ≡ k) where
   pub left : cond (eqb j 0) (hostMemory given) f ≡ unless k (hostMemory after) f

@@ -1,11 +1,9 @@
 // What each call of a host answers, by its flat memory: soundness is tested there, and the rules are the host's own.
-use crate::HeldMemory;
 use crate::HostMemory;
 use crate::changes::count_due;
 use crate::frames::frame_from;
 use crate::frames::is_sound;
 use crate::orders_in::order_from;
-use crate::places::is_due;
 use crate::walks::look;
 use clock::Reading;
 use host::Held;
@@ -13,18 +11,14 @@ use host::SendAnswer;
 use host::TickAnswer;
 use host::number_of;
 ghost use mathlib.Core.Path.{_≡_};
-ghost use mathlib.Core.Bool.{true};
 ghost use Prim.Native.Nat.{_≤_};
 ghost use lib.Dec.{eqb};
-ghost use lib.ListN.{length, take};
-ghost use Rattle.lists.specs.Lists.{keep, rising};
 ghost use Rattle.host.specs.Answers.{says, saysTick};
 ghost use Rattle.host.specs.Start.{startRefusal, startSays};
 ghost use Rattle.host.specs.Receive.{receiveRefusal, receiveSays};
 ghost use Rattle.host.specs.Tick.{tickRefusal, tickSays};
 ghost use Rattle.service.specs.Memory.{orderFrom, copyFrom, hostFrom};
 ghost use Rattle.service.specs.Calls.{sendNumber, tickNumber};
-ghost use Rattle.service.specs.Inside.{beforeIn, dueIn};
 
 // Whether a call is accepted, and its answer as one number.
 pub(crate) struct Answered {
@@ -84,20 +78,8 @@ pub(crate) fn to_tick(memory: HostMemory, u: u64, room: usize) -> Answered
         };
     }
     let history = memory.history;
-    let count = due_count(history, memory.held, memory.bound, Reading(u));
+    let count = count_due(history, memory.held, memory.bound, Reading(u));
     ticked(host::tick_answer(frame_from(memory), Reading(u), room, count))
-}
-
-// How many are due. At most ticks none is, and the first of those held tells.
-fn due_count(history: [HeldMemory; 32], held: usize, bound: u64, u: Reading) -> usize
-    requires { ⌜ (held ≤ 32) × (rising beforeIn (take held history) ≡ true) ⌝ }
-    ensures { λ r. ⌜ (r ≡ length (keep (dueIn bound (u .0)) (take held history))) × (r ≤ held) ⌝ }
-{
-    let first = history[0];
-    if (held == 0) | !is_due(first, bound, u) {
-        return 0;
-    }
-    count_due(history, held, bound, u)
 }
 
 fn ticked(answer: TickAnswer) -> Answered
