@@ -48,6 +48,18 @@ module _ {A : Type 0} (r : A → A → Bool) (p : A → Bool) (with-later : (x y
     pub front-end : rising r left ≡ true → p x ≡ false → i ≡ n
     front-end up e = let last : i + length (keep p (x ∷ rest)) ≡ n = rw next at inv in let none : i + 0 ≡ n = rw (none-pass x rest (rw next at up) e .0) at last in omega arith
 
+-- ---- the first elements, with one more
+
+module _ {A : Type 0} where
+  pub take-next : (d : A) (l : List A) (i : ℕ) → i < length l → take (i + 1) l ≡ take i l ++ (getD l i d ∷ [])
+  take-next d l i h = rw add-one (take-suc l i d h)
+
+  pub drop-next : (d : A) (k : ℕ) (l : List A) (i : ℕ) → k ≤ i → i < length l → drop k (take (i + 1) l) ≡ drop k (take i l) ++ (getD l i d ∷ [])
+  drop-next d k l i le h = ap (drop k) (take-next d l i h) ∙ drop-append-le k (take i l) (getD l i d ∷ []) (rw (length-take-le i l (omega arith)) le)
+
+  pub drop-none : (k i : ℕ) (l : List A) → i ≤ k → drop k (take i l) ≡ []
+  drop-none k i l h = drop-of-length-le (take i l) {i = k} (rw length-take (omega arith))
+
 -- ---- the places of a history
 
 pub due-before : (Δ u : ℕ) (x y : HeldMemory) → beforeIn x y ≡ true → dueIn Δ u y ≡ true → dueIn Δ u x ≡ true
@@ -59,15 +71,3 @@ due-before Δ u x y b e = le-leb _ _ (go (before-is (heldFrom x) (heldFrom y) b)
     go : Goes (heldFrom x) (heldFrom y) → x .stamp .0 + Δ ≤ u
     go (inl l) = omega (arith, late)
     go (inr s) = let same : x .stamp .0 ≡ y .stamp .0 = s .0 in omega (arith, late)
-
--- ---- one element more
-
-module _ {A : Type 0} where
-  pub take-next : (d : A) (l : List A) (i : ℕ) → i < length l → take (i + 1) l ≡ take i l ++ (getD l i d ∷ [])
-  take-next d l i h = rw add-one (take-suc l i d h)
-
-  pub drop-next : (d : A) (k : ℕ) (l : List A) (i : ℕ) → k ≤ i → i < length l → drop k (take (i + 1) l) ≡ drop k (take i l) ++ (getD l i d ∷ [])
-  drop-next d k l i le h = ap (drop k) (take-next d l i h) ∙ drop-append-le k (take i l) (getD l i d ∷ []) (rw (length-take-le i l (omega arith)) le)
-
-  pub drop-same : (k i : ℕ) (l : List A) → i ≤ k → drop k (take i l) ≡ []
-  drop-same k i l h = drop-of-length-le (take i l) {i = k} (rw length-take (omega arith))

@@ -1,9 +1,8 @@
 -- Those that are due are the first: they are written one behind the other, and the others move to the front. Assumes nothing.
 use borrow.Author.Needs.{needs}
 use mathlib.Core.Path.{_≡_, refl, sym, ap, _∙_}
-use mathlib.Core.Bool.{not}
 use mathlib.Core.List.{List, [], _∷_, _++_, map}
-use Prim.Native.Nat.{ℕ, _+_, _-_, _*_, _≤_, _<_}
+use Prim.Native.Nat.{ℕ, _+_, _-_, _*_, _≤_}
 use native.Mathlib.Omega.{arith}
 use lib.ListN.{length, length-map, length-drop, take, drop, getD, set}
 use lib.Seq.{length-take-le, take-take}
@@ -13,12 +12,11 @@ use Rattle.lists.proofs.MemberLaws.{map-append}
 use Rattle.lists.proofs.Places.{pad-more}
 use Rattle.host.specs.declared.Held.{Held}
 use Rattle.host.specs.Entries.{entriesOf}
-use Rattle.host.specs.Tick.{written}
 use Rattle.host.proofs.Writes.{entries-turn}
 use Rattle.service.specs.declared.HeldMemory.{HeldMemory}
 use Rattle.service.specs.Memory.{heldFrom}
 use Rattle.service.specs.Inside.{beforeIn, dueIn, waitsIn, none}
-use Rattle.service.proofs.Prefixes.{in-front, due-before, take-next, drop-next, drop-same}
+use Rattle.service.proofs.Prefixes.{in-front, due-before, take-next, drop-next, drop-none}
 use Rattle.service.proofs.changes.deliver.Statement.{statement}
 use Rattle.service.proofs.changes.deliver.Tie as tie
 
@@ -84,7 +82,7 @@ loop2-holds : tie.Need-loop2-holds Inv-loop μ-loop Inv-loop2 μ-loop2
 loop2-holds c =
     let a = c .before .before .before .before .args in
     let s = c .before .before .loop in
-    (search needs, search needs, rw (c .no-place .ensures) (sym (ap (pad 32 none) (drop-same (a .count) (s .i) (a .t2) (omega arith)))))
+    (search needs, search needs, rw (c .no-place .ensures) (sym (ap (pad 32 none) (drop-none (a .count) (s .i) (a .t2) (omega arith)))))
 
 mul-rest : tie.Need-mul-rest Inv-loop μ-loop Inv-loop2 μ-loop2
 mul-rest c = search needs
@@ -114,8 +112,8 @@ loop2-again c =
     let l : List HeldMemory = a .t2 in
     let e : HeldMemory = getD l (s .i) none in
     let old : List HeldMemory = drop (a .count) (take (s .i) l) in
-    let long : length old ≡ s .i - a .count = length-drop (a .count) (take (s .i) l) ∙ ap (λ (k : ℕ). k - a .count) (length-take-le (s .i) l (omega arith)) in
-    (search needs,
+    let long : length old ≡ s .i - a .count = length-drop (a .count) (take (s .i) l) ∙ ap (λ (k : ℕ). k - a .count) (length-take-le (s .i) l (omega arith)) in (
+      search needs,
       search needs,
       ap (λ (t : List HeldMemory). set t (s .i - a .count) e) (s .inv .2)
           ∙ ap (λ (k : ℕ). set (pad 32 none old) k e) (sym long)
