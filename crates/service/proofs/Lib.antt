@@ -6,6 +6,7 @@ mod Looks
 mod Lefts
 pub mod Back
 mod Still
+mod Prefixes
 mod Flats
 mod Sizes
 pub mod Through

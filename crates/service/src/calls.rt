@@ -23,7 +23,7 @@ ghost use lib.ListN.{length};
 ghost use Rattle.host.specs.Make.{makeRefusal};
 ghost use Rattle.host.specs.Start.{startRefusal, startSays, afterStart};
 ghost use Rattle.host.specs.Receive.{receiveRefusal, receiveSays, afterReceive};
-ghost use Rattle.host.specs.Tick.{tickRefusal, tickSays, tickList, afterTick};
+ghost use Rattle.host.specs.Tick.{dueOf, tickRefusal, tickSays, tickList, afterTick};
 ghost use Rattle.host.specs.Calls.{start, receive, ticks};
 ghost use Rattle.service.specs.Memory.{orderFrom, copyFrom, hostFrom, hostMemory};
 ghost use Rattle.service.specs.Calls.{callLeft, sendNumber, tickNumber, makeLeft};
@@ -172,19 +172,19 @@ pub(crate) fn left_by_tick(memory: HostMemory, u: u64, out: &mut [u8]) -> HostLe
         };
     }
     HostLeft {
-        memory: after_tick(memory, Reading(u), out),
+        memory: after_tick(memory, Reading(u), (answered.number / 256) as usize, out),
         answer: answered.number,
     }
 }
 
-fn after_tick(memory: HostMemory, u: Reading, out: &mut [u8]) -> HostMemory
-    requires { ⌜ tickRefusal (hostFrom memory) (u .0) (length (now out)) ≡ 0 ⌝ }
+fn after_tick(memory: HostMemory, u: Reading, count: usize, out: &mut [u8]) -> HostMemory
+    requires { ⌜ (tickRefusal (hostFrom memory) (u .0) (length (now out)) ≡ 0) × (count ≡ length (dueOf (hostFrom memory) (u .0))) ⌝ }
     ensures { λ r. ⌜ (r ≡ hostMemory (afterTick (hostFrom memory) u)) × (now (out .exit) ≡ tickList (hostFrom memory) (u .0) (now (out .entry))) ⌝ }
 {
     let starts = memory.starts;
     let history = memory.history;
     let plan = memory.plan;
-    let left = deliver(out, history, memory.held, memory.bound, u);
+    let left = deliver(out, history, memory.held, memory.bound, u, count);
     let rest = left.history;
     HostMemory {
         bound: memory.bound,

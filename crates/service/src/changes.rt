@@ -36,61 +36,55 @@ pub(crate) fn with_held(history: [HeldMemory; 32], held: usize, x: HeldMemory) -
     all
 }
 
-// How many of those held are due.
+// How many of those held are due: they stand in front.
 pub(crate) fn count_due(history: [HeldMemory; 32], held: usize, bound: u64, u: Reading) -> usize
-    requires { ⌜ held ≤ 32 ⌝ }
+    requires { ⌜ (held ≤ 32) × (rising beforeIn (take held history) ≡ true) ⌝ }
     ensures { λ r. ⌜ (r ≡ length (keep (dueIn bound (u .0)) (take held history))) × (r ≤ held) ⌝ }
 {
-    let mut n: usize = 0;
     let mut i = 0;
     while i < held {
         let e = history[i];
-        i += 1;
-        if is_due(e, bound, u) {
-            n += 1;
+        if !is_due(e, bound, u) {
+            return i;
         }
+        i += 1;
     }
-    n
+    i
 }
 
-// What a delivery leaves of the history, and how many it delivered.
+// What a delivery leaves of the history.
 pub(crate) struct Rest {
-    pub delivered: usize,
     pub held: usize,
     pub history: [HeldMemory; 32],
 }
 
-// Writes the entries of those that are due from the front of the lent list, and keeps the others.
+// Writes the entries of those that are due, the first so many, from the front of the lent list, and moves the others to the front of the history.
 pub(crate) fn deliver(
     out: &mut [u8],
     history: [HeldMemory; 32],
     held: usize,
     bound: u64,
     u: Reading,
+    count: usize,
 ) -> Rest
-    requires { ⌜ (held ≤ 32) × (16 * length (keep (dueIn bound (u .0)) (take held history)) ≤ length (now out)) ⌝ }
-    ensures { λ r. ⌜ r .delivered ≡ length (keep (dueIn bound (u .0)) (take held history)) ⌝ }
+    requires { ⌜ (held ≤ 32) × (rising beforeIn (take held history) ≡ true) × (count ≡ length (keep (dueIn bound (u .0)) (take held history))) × (16 * count ≤ length (now out)) ⌝ }
     ensures { λ r. ⌜ r .held ≡ length (keep (waitsIn bound (u .0)) (take held history)) ⌝ }
     ensures { λ r. ⌜ r .history ≡ pad 32 none (keep (waitsIn bound (u .0)) (take held history)) ⌝ }
     ensures { λ r. ⌜ now (out .exit) ≡ written (map heldFrom (keep (dueIn bound (u .0)) (take held history))) (now (out .entry)) ⌝ }
 {
-    let mut rest = [no_place(); 32];
-    let mut waiting: usize = 0;
-    let mut delivered: usize = 0;
     let mut i = 0;
-    while i < held {
+    while i < count {
         let e = history[i];
+        put_entry(out, 16 * i, e);
         i += 1;
-        if is_due(e, bound, u) {
-            put_entry(out, 16 * delivered, e);
-            delivered += 1;
-        } else {
-            rest[waiting] = e;
-            waiting += 1;
-        }
     }
+    let mut rest = [no_place(); 32];
+    while i < held {
+        rest[i - count] = history[i];
+        i += 1;
+    }
+    let waiting = held - count;
     Rest {
-        delivered,
         held: waiting,
         history: rest,
     }

@@ -1,23 +1,29 @@
--- The count is that of those looked at. Assumes nothing.
+-- Those looked at are due; with those due among what is left they are all. Where the first left is not due, none is. Assumes nothing.
 use borrow.Author.Needs.{needs}
+use borrow.Author.Tests.{not-false, not-true}
+use mathlib.Core.Path.{_≡_, sym, ap, _∙_}
+use Prim.Native.Nat.{_+_, _-_, _≤_}
 use native.Mathlib.Omega.{arith}
-use mathlib.Core.Path.{_≡_, refl, sym, ap, _∙_}
-use Prim.Native.Nat.{ℕ, _+_, _-_, _≤_}
-use lib.ListN.{length, take}
+use mathlib.Core.List.{List}
+use lib.ListN.{length, take, drop}
 use Rattle.lists.specs.Lists.{keep}
-use Rattle.lists.proofs.Loops.{keep-no, count-yes}
-use Rattle.service.specs.Inside.{dueIn, none}
+use Rattle.lists.proofs.Loops.{first-next, first-none}
+use Rattle.lists.proofs.Rises.{rising-drop}
+use Rattle.service.specs.declared.HeldMemory.{HeldMemory}
+use Rattle.service.specs.Inside.{beforeIn, dueIn, none}
+use Rattle.service.proofs.Prefixes.{front-turn, front-end, due-before}
 use Rattle.service.proofs.changes.count_due.Statement.{statement}
 use Rattle.service.proofs.changes.count_due.Tie as tie
 
 abbrev Inv-loop : tie.InvT-loop
-Inv-loop held bound u history n₀ i₀ n i = (i ≤ held) × (n ≤ i) × (n ≡ length (keep (dueIn bound (u .0)) (take i history)))
+Inv-loop held bound u history i₀ i =
+    (i ≤ held) × (i + length (keep (dueIn bound (u .0)) (drop i (take held history))) ≡ length (keep (dueIn bound (u .0)) (take held history)))
 
 abbrev μ-loop : tie.MeasureT-loop
-μ-loop held bound u history n₀ i₀ n i = held - i
+μ-loop held bound u history i₀ i = held - i
 
 loop-holds : tie.Need-loop-holds Inv-loop μ-loop
-loop-holds c = (search needs, search needs, refl)
+loop-holds c = (search needs, omega arith)
 
 mul-e : tie.Need-mul-e Inv-loop μ-loop
 mul-e c = search needs
@@ -25,14 +31,19 @@ mul-e c = search needs
 array-copy-out-e : tie.Need-array-copy-out-e Inv-loop μ-loop
 array-copy-out-e c = search needs
 
-add-i : tie.Need-add-i Inv-loop μ-loop
-add-i c = search needs
-
 is-due-requires : tie.Need-is-due-requires Inv-loop μ-loop
 is-due-requires c κs = search needs
 
-add-n : tie.Need-add-n Inv-loop μ-loop
-add-n c = search needs
+returns : tie.Need-returns Inv-loop μ-loop
+returns c =
+    let a = c .before .before .before .before .before .args in
+    let s = c .before .before .before .before .loop in
+    let next = first-next (a .t1) (a .held) (search needs) none (s .i) (search needs) in
+    let up = rising-drop beforeIn (s .i) (take (a .held) (a .t1)) (c .before .before .before .before .before .pre .1) in
+    (front-end beforeIn (dueIn (a .bound) (a .u .0)) (due-before (a .bound) (a .u .0)) (s .i) next (s .inv .1) up (sym (c .before .is-due .ensures) ∙ not-true _ (c .if1 .taken)), search needs)
+
+add-i : tie.Need-add-i Inv-loop μ-loop
+add-i c = search needs
 
 loop-less : tie.Need-loop-less Inv-loop μ-loop
 loop-less c = search needs
@@ -41,25 +52,15 @@ loop-again : tie.Need-loop-again Inv-loop μ-loop
 loop-again c =
     let a = c .before .before .before .before .before .args in
     let s = c .before .before .before .before .loop in
-    let more = count-yes (dueIn (a .bound) (a .u .0)) none (a .t1) (s .i) (search needs) (sym (c .before .is-due .ensures) ∙ c .if1 .taken) in
-    (search needs, search needs, ap (λ (k : ℕ). k + 1) (s .inv .2) ∙ sym more)
+    let next = first-next (a .t1) (a .held) (search needs) none (s .i) (search needs) in
+    (search needs, front-turn beforeIn (dueIn (a .bound) (a .u .0)) (due-before (a .bound) (a .u .0)) (s .i) next (s .inv .1) (sym (c .before .is-due .ensures) ∙ not-false _ (c .if1 .left)))
 
-loop-less-2 : tie.Need-loop-less-2 Inv-loop μ-loop
-loop-less-2 c = search needs
-
-loop-again-2 : tie.Need-loop-again-2 Inv-loop μ-loop
-loop-again-2 c =
-    let a = c .before .before .before .before .before .args in
-    let s = c .before .before .before .before .loop in
-    let same = keep-no (dueIn (a .bound) (a .u .0)) none (a .t1) (s .i) (search needs) (sym (c .before .is-due .ensures) ∙ c .if1 .left) in
-    (search needs, search needs, s .inv .2 ∙ sym (ap length same))
-
-returns : tie.Need-returns Inv-loop μ-loop
-returns c =
+returns-2 : tie.Need-returns-2 Inv-loop μ-loop
+returns-2 c =
     let a = c .before .before .args in
     let s = c .before .loop in
-    let e : s .i ≡ a .held = omega arith in
-    (s .inv .2 ∙ ap (λ (k : ℕ). length (keep (dueIn (a .bound) (a .u .0)) (take k (a .t1)))) e, search needs)
+    let end = ap (λ (l : List HeldMemory). length (keep (dueIn (a .bound) (a .u .0)) l)) (first-none (a .t1) (a .held) (search needs) (s .i) (search needs)) in
+    (omega (arith, end, s .inv .1), search needs)
 
 pub count-due-spec : {M : Type 1} → statement M
 count-due-spec =
@@ -70,11 +71,9 @@ count-due-spec =
     loop-holds
     mul-e
     array-copy-out-e
-    add-i
     is-due-requires
-    add-n
+    returns
+    add-i
     loop-less
     loop-again
-    loop-less-2
-    loop-again-2
-    returns)
+    returns-2)

@@ -1,160 +1,155 @@
--- Of those looked at, the due ones are written and the others are kept, each behind those before it. Assumes nothing.
+-- Those that are due are the first: they are written one behind the other, and the others move to the front. Assumes nothing.
 use borrow.Author.Needs.{needs}
-use native.Mathlib.Omega.{arith}
 use mathlib.Core.Path.{_≡_, refl, sym, ap, _∙_}
-use Prim.Native.Nat.{ℕ, _+_, _-_, _*_, _≤_, _<_}
-use mathlib.Core.Bool.{true, false, not}
 use mathlib.Core.List.{List, [], _∷_, _++_, map}
-use lib.ListN.{length, length-map, take, drop, getD, set}
+use Prim.Native.Nat.{ℕ, _+_, _-_, _*_, _≤_}
+use native.Mathlib.Omega.{arith}
+use lib.ListN.{length, length-map, length-drop, take, drop, getD, set}
+use lib.Seq.{length-take-le, take-take}
 use Rattle.lists.specs.Lists.{keep, pad}
-use Rattle.lists.proofs.Loops.{keep-yes, keep-no, count-yes, keep-grows}
+use Rattle.lists.proofs.Loops.{keep-both}
 use Rattle.lists.proofs.MemberLaws.{map-append}
 use Rattle.lists.proofs.Places.{pad-more}
 use Rattle.host.specs.declared.Held.{Held}
 use Rattle.host.specs.Entries.{entriesOf}
-use Rattle.host.specs.Tick.{written}
 use Rattle.host.proofs.Writes.{entries-turn}
 use Rattle.service.specs.declared.HeldMemory.{HeldMemory}
 use Rattle.service.specs.Memory.{heldFrom}
-use Rattle.service.specs.Inside.{dueIn, waitsIn, none}
+use Rattle.service.specs.Inside.{beforeIn, dueIn, waitsIn, none}
+use Rattle.service.proofs.Prefixes.{in-front, due-before, take-next, drop-next, drop-none}
 use Rattle.service.proofs.changes.deliver.Statement.{statement}
 use Rattle.service.proofs.changes.deliver.Tie as tie
 
 abbrev Inv-loop : tie.InvT-loop
-Inv-loop out₀ held bound u history rest₀ waiting₀ delivered₀ i₀ out rest waiting delivered i =
-    (i ≤ held)
-    × (delivered ≡ length (keep (dueIn bound (u .0)) (take i history)))
-    × (waiting ≡ length (keep (waitsIn bound (u .0)) (take i history)))
-    × (delivered + waiting ≡ i)
-    × (rest ≡ pad 32 none (keep (waitsIn bound (u .0)) (take i history)))
-    × (length out ≡ length out₀)
-    × (out ≡ entriesOf (map heldFrom (keep (dueIn bound (u .0)) (take i history))) ++ drop (16 * delivered) out₀)
+Inv-loop out₀ held bound count history i₀ out i =
+    (i ≤ count) × (count ≤ held) × (length out ≡ length out₀) × (out ≡ entriesOf (map heldFrom (take i history)) ++ drop (16 * i) out₀)
 
 abbrev μ-loop : tie.MeasureT-loop
-μ-loop out₀ held bound u history rest₀ waiting₀ delivered₀ i₀ out rest waiting delivered i = held - i
+μ-loop out₀ held bound count history i₀ out i = count - i
 
-no-place-requires : tie.Need-no-place-requires Inv-loop μ-loop
-no-place-requires c κs = search needs
+abbrev Inv-loop2 : tie.InvT-loop2
+Inv-loop2 out held bound count history i₀ rest₀ i rest = (count ≤ i) × (i ≤ held) × (rest ≡ pad 32 none (drop count (take i history)))
 
-loop-holds : tie.Need-loop-holds Inv-loop μ-loop
-loop-holds c = (search needs, refl, refl, search needs, rw (c .no-place .ensures), refl, refl)
+abbrev μ-loop2 : tie.MeasureT-loop2
+μ-loop2 out held bound count history i₀ rest₀ i rest = held - i
 
-mul-e : tie.Need-mul-e Inv-loop μ-loop
+loop-holds : tie.Need-loop-holds Inv-loop μ-loop Inv-loop2 μ-loop2
+loop-holds c =
+    let a = c .before .args in
+    let l : List HeldMemory = take (a .held) (a .t2) in
+    let long : length l ≡ a .held = length-take-le (a .held) (a .t2) (search needs) in
+    let both = keep-both (dueIn (a .bound) (a .u .0)) l in
+    (search needs, omega (arith, c .before .pre .2), refl, refl)
+
+mul-e : tie.Need-mul-e Inv-loop μ-loop Inv-loop2 μ-loop2
 mul-e c = search needs
 
-array-copy-out-e : tie.Need-array-copy-out-e Inv-loop μ-loop
+array-copy-out-e : tie.Need-array-copy-out-e Inv-loop μ-loop Inv-loop2 μ-loop2
 array-copy-out-e c = search needs
 
-add-i : tie.Need-add-i Inv-loop μ-loop
-add-i c = search needs
-
-is-due-requires : tie.Need-is-due-requires Inv-loop μ-loop
-is-due-requires c κs = search needs
-
-mul-put-entry : tie.Need-mul-put-entry Inv-loop μ-loop
+mul-put-entry : tie.Need-mul-put-entry Inv-loop μ-loop Inv-loop2 μ-loop2
 mul-put-entry c = search needs
 
-put-entry-requires : tie.Need-put-entry-requires Inv-loop μ-loop
-put-entry-requires c κs =
-    let a = c .before .before .before .before .before .before .before .before .args in
-    let s = c .before .before .before .before .before .loop in
-    let l : List HeldMemory = a .t2 in
-    let p = dueIn (a .bound) (a .u .0) in
-    let test : p (getD l (s .i) none) ≡ true = sym (c .before .before .is-due .ensures) ∙ c .before .if1 .taken in
-    let more = count-yes p none l (s .i) (omega arith) test in
-    let most : length (keep p (take (s .i + 1) l)) ≤ length (keep p (take (s .i + 1 + (a .held - (s .i + 1))) l)) = keep-grows p l (s .i + 1) (a .held - (s .i + 1)) in
-    let end : s .i + 1 + (a .held - (s .i + 1)) ≡ a .held = omega arith in
-    let room : length (keep p (take (s .i + 1) l)) ≤ length (keep p (take (a .held) l)) = rw end at most in
-    omega arith
+put-entry-requires : tie.Need-put-entry-requires Inv-loop μ-loop Inv-loop2 μ-loop2
+put-entry-requires c κs = search needs
 
-add-delivered : tie.Need-add-delivered Inv-loop μ-loop
-add-delivered c = search needs
+add-i : tie.Need-add-i Inv-loop μ-loop Inv-loop2 μ-loop2
+add-i c = search needs
 
-loop-less : tie.Need-loop-less Inv-loop μ-loop
+loop-less : tie.Need-loop-less Inv-loop μ-loop Inv-loop2 μ-loop2
 loop-less c = search needs
 
-loop-again : tie.Need-loop-again Inv-loop μ-loop
+loop-again : tie.Need-loop-again Inv-loop μ-loop Inv-loop2 μ-loop2
 loop-again c =
-    let a = c .before .before .before .before .before .before .before .before .before .before .before .args in
-    let s = c .before .before .before .before .before .before .before .before .loop in
+    let a = c .before .before .before .before .before .before .before .before .args in
+    let s = c .before .before .before .before .before .before .loop in
     let l : List HeldMemory = a .t2 in
-    let p = dueIn (a .bound) (a .u .0) in
-    let w = waitsIn (a .bound) (a .u .0) in
     let e : HeldMemory = getD l (s .i) none in
-    let test : p e ≡ true = sym (c .before .before .before .before .before .is-due .ensures) ∙ c .before .before .before .before .if1 .taken in
-    let inside : s .i < length l = omega arith in
-    let old : List HeldMemory = keep p (take (s .i) l) in
-    let yes = keep-yes p none l (s .i) inside test in
-    let no = keep-no w none l (s .i) inside (ap not test) in (
+    let old : List HeldMemory = take (s .i) l in
+    let long : length old ≡ s .i = length-take-le (s .i) l (omega arith) in (
       search needs,
-      ap (λ (k : ℕ). k + 1) (s .inv .1) ∙ sym (count-yes p none l (s .i) inside test),
-      s .inv .2 ∙ sym (ap length no),
-      omega arith,
-      s .inv .4 ∙ ap (λ (t : List HeldMemory). pad 32 none t) (sym no),
-      c .before .before .put-entry .kept .0 ∙ s .inv .5,
+      search needs,
+      c .before .before .put-entry .kept .0 ∙ s .inv .2,
       c .before .before .put-entry .ensures
-          ∙ entries-turn (map heldFrom old) (heldFrom e) (s .out) (a .out .now) (s .delivered) (s .inv .1 ∙ sym (length-map old heldFrom)) (s .inv .6)
-          ∙ ap (λ (t : List Held). entriesOf t ++ drop (16 * (s .delivered + 1)) (a .out .now)) (sym (ap (map heldFrom) yes ∙ map-append heldFrom old (e ∷ []))),
+          ∙ entries-turn (map heldFrom old) (heldFrom e) (s .out) (a .out .now) (s .i) (sym (length-map old heldFrom ∙ long)) (s .inv .3)
+          ∙ ap (λ (t : List Held). entriesOf t ++ drop (16 * (s .i + 1)) (a .out .now)) (sym (ap (map heldFrom) (take-next none l (s .i) (omega arith)) ∙ map-append heldFrom old (e ∷ []))),
     )
 
-mul-rest : tie.Need-mul-rest Inv-loop μ-loop
+no-place-requires : tie.Need-no-place-requires Inv-loop μ-loop Inv-loop2 μ-loop2
+no-place-requires c κs = search needs
+
+loop2-holds : tie.Need-loop2-holds Inv-loop μ-loop Inv-loop2 μ-loop2
+loop2-holds c =
+    let a = c .before .before .before .before .args in
+    let s = c .before .before .loop in
+    (search needs, search needs, rw (c .no-place .ensures) (sym (ap (pad 32 none) (drop-none (a .count) (s .i) (a .t2) (omega arith)))))
+
+mul-rest : tie.Need-mul-rest Inv-loop μ-loop Inv-loop2 μ-loop2
 mul-rest c = search needs
 
-array-set-from-rest : tie.Need-array-set-from-rest Inv-loop μ-loop
+array-copy-out-rest : tie.Need-array-copy-out-rest Inv-loop μ-loop Inv-loop2 μ-loop2
+array-copy-out-rest c = search needs
+
+sub-rest : tie.Need-sub-rest Inv-loop μ-loop Inv-loop2 μ-loop2
+sub-rest c = search needs
+
+mul-rest-2 : tie.Need-mul-rest-2 Inv-loop μ-loop Inv-loop2 μ-loop2
+mul-rest-2 c = search needs
+
+array-set-from-rest : tie.Need-array-set-from-rest Inv-loop μ-loop Inv-loop2 μ-loop2
 array-set-from-rest c = search needs
 
-add-waiting : tie.Need-add-waiting Inv-loop μ-loop
-add-waiting c = search needs
+add-i-2 : tie.Need-add-i-2 Inv-loop μ-loop Inv-loop2 μ-loop2
+add-i-2 c = search needs
 
-loop-less-2 : tie.Need-loop-less-2 Inv-loop μ-loop
-loop-less-2 c = search needs
+loop2-less : tie.Need-loop2-less Inv-loop μ-loop Inv-loop2 μ-loop2
+loop2-less c = search needs
 
-loop-again-2 : tie.Need-loop-again-2 Inv-loop μ-loop
-loop-again-2 c =
+loop2-again : tie.Need-loop2-again Inv-loop μ-loop Inv-loop2 μ-loop2
+loop2-again c =
     let a = c .before .before .before .before .before .before .before .args in
-    let s = c .before .before .before .before .loop in
+    let s = c .before .before .loop2 in
     let l : List HeldMemory = a .t2 in
-    let p = dueIn (a .bound) (a .u .0) in
-    let w = waitsIn (a .bound) (a .u .0) in
     let e : HeldMemory = getD l (s .i) none in
-    let test : p e ≡ false = sym (c .before .is-due .ensures) ∙ c .if1 .left in
-    let inside : s .i < length l = omega arith in
-    let yes = keep-yes w none l (s .i) inside (ap not test) in
-    let no = keep-no p none l (s .i) inside test in (
+    let old : List HeldMemory = drop (a .count) (take (s .i) l) in
+    let long : length old ≡ s .i - a .count = length-drop (a .count) (take (s .i) l) ∙ ap (λ (k : ℕ). k - a .count) (length-take-le (s .i) l (omega arith)) in (
       search needs,
-      s .inv .1 ∙ sym (ap length no),
-      ap (λ (k : ℕ). k + 1) (s .inv .2) ∙ sym (count-yes w none l (s .i) inside (ap not test)),
-      omega arith,
-      ap (λ (t : List HeldMemory). set t (s .waiting) e) (s .inv .4)
-          ∙ ap (λ (k : ℕ). set (pad 32 none (keep w (take (s .i) l))) k e) (s .inv .2)
-          ∙ pad-more 32 none e (keep w (take (s .i) l)) (omega arith)
-          ∙ ap (λ (t : List HeldMemory). pad 32 none t) (sym yes),
-      s .inv .5,
-      s .inv .6 ∙ ap (λ (t : List HeldMemory). entriesOf (map heldFrom t) ++ drop (16 * s .delivered) (a .out .now)) (sym no),
+      search needs,
+      ap (λ (t : List HeldMemory). set t (s .i - a .count) e) (s .inv .2)
+          ∙ ap (λ (k : ℕ). set (pad 32 none old) k e) (sym long)
+          ∙ pad-more 32 none e old (omega arith)
+          ∙ ap (pad 32 none) (sym (drop-next none (a .count) l (s .i) (omega arith) (omega arith))),
     )
 
-same-length : tie.Need-same-length Inv-loop μ-loop
-same-length c = c .before .loop .inv .5
+sub-waiting : tie.Need-sub-waiting Inv-loop μ-loop Inv-loop2 μ-loop2
+sub-waiting c = search needs
 
-returns : tie.Need-returns Inv-loop μ-loop
+same-length : tie.Need-same-length Inv-loop μ-loop Inv-loop2 μ-loop2
+same-length c = c .before .before .before .before .loop .inv .2
+
+returns : tie.Need-returns Inv-loop μ-loop Inv-loop2 μ-loop2
 returns c =
-    let a = c .before .before .before .before .args in
-    let s = c .before .loop in
-    let l : List HeldMemory = a .t2 in
+    let a = c .before .before .before .before .before .before .args in
+    let pre = c .before .before .before .before .before .before .pre in
+    let s = c .before .before .before .before .loop in
+    let s2 = c .before .loop2 in
+    let l : List HeldMemory = take (a .held) (a .t2) in
     let p = dueIn (a .bound) (a .u .0) in
-    let w = waitsIn (a .bound) (a .u .0) in
-    let end : s .i ≡ a .held = omega arith in
-    let D : ℕ → List HeldMemory = λ k. keep p (take k l) in
-    let W : ℕ → List HeldMemory = λ k. keep w (take k l) in (
-      s .inv .1 ∙ ap (λ (k : ℕ). length (D k)) end,
+    let long : length l ≡ a .held = length-take-le (a .held) (a .t2) (omega arith) in
+    let count : a .count ≡ length (keep p l) = pre .2 in
+    let both = keep-both p l in
+    let front = in-front beforeIn p (due-before (a .bound) (a .u .0)) l (pre .1) in
+    let end : s .i ≡ a .count = omega arith in
+    let end2 : s2 .i ≡ a .held = omega arith in
+    let due : take (s .i) (a .t2) ≡ keep p l = ap (λ (k : ℕ). take k (a .t2)) end ∙ sym (take-take (a .count) (a .held) (a .t2) (omega arith)) ∙ ap (λ (k : ℕ). take k l) count ∙ front .0 in
+    let wait : drop (a .count) (take (s2 .i) (a .t2)) ≡ keep (waitsIn (a .bound) (a .u .0)) l =
+    ap (λ (k : ℕ). drop (a .count) (take k (a .t2))) end2 ∙ ap (λ (k : ℕ). drop k l) count ∙ front .1 in (
+      omega arith,
       (
-        s .inv .2 ∙ ap (λ (k : ℕ). length (W k)) end,
-        (
-          s .inv .4 ∙ ap (λ (k : ℕ). pad 32 none (W k)) end,
-          s .inv .6
-              ∙ ap (λ (n : ℕ). entriesOf (map heldFrom (D (s .i))) ++ drop (16 * n) (a .out .now)) (s .inv .1 ∙ sym (length-map (D (s .i)) heldFrom))
-              ∙ ap (λ (k : ℕ). written (map heldFrom (D k)) (a .out .now)) end,
-        ),
+        s2 .inv .2 ∙ ap (pad 32 none) wait,
+        s .inv .3
+            ∙ ap (λ (t : List HeldMemory). entriesOf (map heldFrom t) ++ drop (16 * s .i) (a .out .now)) due
+            ∙ ap (λ (n : ℕ). entriesOf (map heldFrom (keep p l)) ++ drop (16 * n) (a .out .now)) (end ∙ count ∙ sym (length-map (keep p l) heldFrom)),
       ),
     )
 
@@ -164,21 +159,26 @@ deliver-spec =
     (tie.spec
     Inv-loop
     μ-loop
-    no-place-requires
+    Inv-loop2
+    μ-loop2
     loop-holds
     mul-e
     array-copy-out-e
-    add-i
-    is-due-requires
     mul-put-entry
     put-entry-requires
-    add-delivered
+    add-i
     loop-less
     loop-again
+    no-place-requires
+    loop2-holds
     mul-rest
+    array-copy-out-rest
+    sub-rest
+    mul-rest-2
     array-set-from-rest
-    add-waiting
-    loop-less-2
-    loop-again-2
+    add-i-2
+    loop2-less
+    loop2-again
+    sub-waiting
     same-length
     returns)
