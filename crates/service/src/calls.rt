@@ -1,31 +1,27 @@
 // The calls of a host on its flat memory, by value: what each leaves, and what it answers.
 use crate::HostLeft;
 use crate::HostMemory;
+use crate::afters::after_copy;
+use crate::afters::after_start;
+use crate::afters::after_tick;
 use crate::answers::to_copy;
 use crate::answers::to_start;
 use crate::answers::to_tick;
-use crate::changes::deliver;
-use crate::changes::with_held;
-use crate::memory::held_memory;
 use crate::memory::host_memory;
 use crate::memory::later;
-use crate::memory::own_from;
 use crate::orders_in::order_from;
 use clock::Reading;
 use host::Held;
 use host::Verdict;
 use host::number_of;
-use host::one_more;
-use host::with_start;
-use orders::Order;
 ghost use mathlib.Core.Path.{_≡_};
 ghost use lib.ListN.{length};
 ghost use Rattle.host.specs.Make.{makeRefusal};
-ghost use Rattle.host.specs.Start.{startRefusal, startSays, afterStart};
-ghost use Rattle.host.specs.Receive.{receiveRefusal, receiveSays, afterReceive};
-ghost use Rattle.host.specs.Tick.{dueOf, tickRefusal, tickSays, tickList, afterTick};
+ghost use Rattle.host.specs.Start.{startSays};
+ghost use Rattle.host.specs.Receive.{receiveSays};
+ghost use Rattle.host.specs.Tick.{tickSays, tickList};
 ghost use Rattle.host.specs.Calls.{start, receive, ticks};
-ghost use Rattle.service.specs.Memory.{orderFrom, copyFrom, hostFrom, hostMemory};
+ghost use Rattle.service.specs.Memory.{orderFrom, copyFrom, hostFrom};
 ghost use Rattle.service.specs.Calls.{callLeft, sendNumber, tickNumber, makeLeft};
 
 // A fresh host of the plan that stands in the memory.
@@ -73,34 +69,6 @@ pub(crate) fn left_by_start(
     }
 }
 
-fn after_start(memory: HostMemory, u: Reading, order: Order) -> HostMemory
-    requires { ⌜ startRefusal (hostFrom memory) (u .0) order ≡ 0 ⌝ }
-    ensures { λ r. ⌜ r ≡ hostMemory (afterStart (hostFrom memory) u order) ⌝ }
-{
-    let starts = memory.starts;
-    let started = memory.started;
-    let history = memory.history;
-    let held = memory.held;
-    let plan = memory.plan;
-    let x = Held {
-        stamp: u,
-        source: own_from(memory.own),
-        order,
-    };
-    HostMemory {
-        bound: memory.bound,
-        last: u,
-        own: memory.own,
-        started: one_more(started),
-        held: held + 1,
-        starts: with_start(starts, started, u),
-        history: with_held(history, held, held_memory(x)),
-        plan,
-        rules: memory.rules,
-        d: memory.d,
-    }
-}
-
 pub(crate) fn left_by_receive(
     memory: HostMemory,
     u: u64,
@@ -132,28 +100,6 @@ pub(crate) fn left_by_receive(
     }
 }
 
-fn after_copy(memory: HostMemory, u: Reading, link: u8, hop: u8, copy: Held) -> HostMemory
-    requires { ⌜ receiveRefusal (hostFrom memory) (u .0) link hop copy ≡ 0 ⌝ }
-    ensures { λ r. ⌜ r ≡ hostMemory (afterReceive (hostFrom memory) u copy) ⌝ }
-{
-    let starts = memory.starts;
-    let history = memory.history;
-    let held = memory.held;
-    let plan = memory.plan;
-    HostMemory {
-        bound: memory.bound,
-        last: u,
-        own: memory.own,
-        started: memory.started,
-        held: held + 1,
-        starts,
-        history: with_held(history, held, held_memory(copy)),
-        plan,
-        rules: memory.rules,
-        d: memory.d,
-    }
-}
-
 pub(crate) fn left_by_tick(memory: HostMemory, u: u64, out: &mut [u8]) -> HostLeft
     ensures { λ r. ⌜ (r .memory ≡ callLeft memory (record { 0 = u }) (ticks (length (now (out .entry))))) × ((r .answer ≡ tickNumber (tickSays (hostFrom memory) u (length (now (out .entry))))) × (now (out .exit) ≡ tickList (hostFrom memory) u (now (out .entry)))) ⌝ }
 {
@@ -172,30 +118,7 @@ pub(crate) fn left_by_tick(memory: HostMemory, u: u64, out: &mut [u8]) -> HostLe
         };
     }
     HostLeft {
-        memory: after_tick(memory, Reading(u), (answered.number / 256) as usize, out),
+        memory: after_tick(memory, Reading(u), out),
         answer: answered.number,
-    }
-}
-
-fn after_tick(memory: HostMemory, u: Reading, count: usize, out: &mut [u8]) -> HostMemory
-    requires { ⌜ (tickRefusal (hostFrom memory) (u .0) (length (now out)) ≡ 0) × (count ≡ length (dueOf (hostFrom memory) (u .0))) ⌝ }
-    ensures { λ r. ⌜ (r ≡ hostMemory (afterTick (hostFrom memory) u)) × (now (out .exit) ≡ tickList (hostFrom memory) (u .0) (now (out .entry))) ⌝ }
-{
-    let starts = memory.starts;
-    let history = memory.history;
-    let plan = memory.plan;
-    let left = deliver(out, history, memory.held, memory.bound, u, count);
-    let rest = left.history;
-    HostMemory {
-        bound: memory.bound,
-        last: u,
-        own: memory.own,
-        started: memory.started,
-        held: left.held,
-        starts,
-        history: rest,
-        plan,
-        rules: memory.rules,
-        d: memory.d,
     }
 }

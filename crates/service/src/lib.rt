@@ -1,5 +1,6 @@
 // The door for a service that is not written in Rattle: exported calls over flat memory, which hold no enum and no reference, thinly over the calls by value.
 // Every byte of the memory is some field's, and any bytes are allowed: what is not the memory of a sound state is refused 9.
+mod afters;
 mod answers;
 mod boards;
 mod calls;

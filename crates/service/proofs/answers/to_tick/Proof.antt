@@ -7,10 +7,11 @@ use native.Mathlib.Omega.{arith}
 use borrow.Author.Tests.{not-true, not-false}
 use lib.Dec.{eqb}
 use lib.ListN.{length}
+use Rattle.lists.specs.Tests.{firstOf}
 use Rattle.host.specs.declared.Host.{Host}
 use Rattle.host.specs.declared.Refusal.the-variants.{Unsound}
 use Rattle.host.specs.Answers.{SaidTick, saysTick}
-use Rattle.host.specs.State.{sound}
+use Rattle.host.specs.State.{sound, bare}
 use Rattle.host.specs.Tick.{dueOf, tickTests, tickChecks, tickRefusal, tickSays}
 use Rattle.host.proofs.Answered.{unsound-first, tick-said}
 use Rattle.host.proofs.Facts.{sound-is}
@@ -50,7 +51,10 @@ ticked-requires : tie.Need-ticked-requires
 ticked-requires c κs =
     let f = c .before .before .before .before .before .before .args .memory in
     let s = sound-is (hostFrom f) (sym (c .before .before .before .before .before .is-sound .ensures) ∙ not-false _ (c .before .before .before .before .if1 .left)) in
-    omega (arith, said-few _ _ _ (c .tick-answer .ensures), c .before .before .count-due .ensures .1, s .held)
+    let a = c .before .before .before .before .before .before .args in
+    let count = c .before .before .count-due .result in
+    let checks = firstOf (tickChecks (bare (c .before .frame-from .result)) (a .u) (a .room) count) in
+    omega (arith, said-few checks count _ (c .tick-answer .ensures), c .before .before .count-due .ensures .1, s .held)
 
 returns-2 : tie.Need-returns-2
 returns-2 c =

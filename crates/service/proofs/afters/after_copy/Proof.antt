@@ -11,8 +11,8 @@ use Rattle.service.specs.declared.HeldMemory.{HeldMemory}
 use Rattle.service.specs.Memory.{hostFrom}
 use Rattle.service.specs.Inside.{memoryWith, beforeIn, none}
 use Rattle.service.proofs.Flats.{rise-in, unused-in, sized-in, after-copy-in}
-use Rattle.service.proofs.calls.after_copy.Statement.{statement}
-use Rattle.service.proofs.calls.after_copy.Tie as tie
+use Rattle.service.proofs.afters.after_copy.Statement.{statement}
+use Rattle.service.proofs.afters.after_copy.Tie as tie
 
 add-t10 : tie.Need-add-t10
 add-t10 c =

@@ -13,8 +13,8 @@ use Rattle.service.specs.declared.HeldMemory.{HeldMemory}
 use Rattle.service.specs.Memory.{hostFrom, heldMemory}
 use Rattle.service.specs.Inside.{memoryWith, beforeIn, none}
 use Rattle.service.proofs.Flats.{rise-in, unused-in, sized-in, after-start-in}
-use Rattle.service.proofs.calls.after_start.Statement.{statement}
-use Rattle.service.proofs.calls.after_start.Tie as tie
+use Rattle.service.proofs.afters.after_start.Statement.{statement}
+use Rattle.service.proofs.afters.after_start.Tie as tie
 
 own-from-requires : tie.Need-own-from-requires
 own-from-requires c κs = search needs
