@@ -2,7 +2,6 @@
 mod Cells
 mod Placing
 mod Boards
-mod Walks
 mod Makings
 mod Settling
 pub mod Laws

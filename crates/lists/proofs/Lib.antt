@@ -6,6 +6,7 @@ pub mod SearchLaws
 pub mod CountLaws
 pub mod MemberLaws
 pub mod Loops
+pub mod Walks
 pub mod Places
 pub mod Listing
 pub mod Order

@@ -4,11 +4,11 @@ use mathlib.Core.List.{List, [], _∷_, _++_, map, append-nil}
 use Prim.Native.Nat.{ℕ, _+_, _-_, _≤_, _<_}
 use native.Mathlib.Numerals.{add-one}
 use native.Mathlib.Omega.{arith}
-use lib.ListN.{length, take, getD, set, replicate, length-map, List·getD-eq-default}
-use lib.Seq.{length-take-le, take-suc, take-all, set-getD}
+use lib.ListN.{length, take, getD, set, replicate, length-map}
+use lib.Seq.{length-take-le, take-suc, take-all}
 use Rattle.lists.specs.Lists.{pad}
 use Rattle.lists.proofs.MemberLaws.{map-append}
-use Rattle.lists.proofs.Places.{pad-more, getD-pad}
+use Rattle.lists.proofs.Places.{pad-more}
 
 module _ {A B : Type 0} (f : A → B) (N : ℕ) (z : B) (l : List A) where
   pub fill-next : (d : A) (i : ℕ) → i < length l → length l ≤ N → set (pad N z (map f (take i l))) i (f (getD l i d)) ≡ pad N z (map f (take (i + 1) l))
@@ -18,14 +18,6 @@ module _ {A B : Type 0} (f : A → B) (N : ℕ) (z : B) (l : List A) where
       let more : map f (take (i + 1) l) ≡ map f (take i l) ++ (x ∷ []) = rw add-one (ap (map f) (take-suc l i d h) ∙ map-append f (take i l) (getD l i d ∷ [])) in
       subst (λ (j : ℕ). set (pad N z (map f (take i l))) j x ≡ pad N z (map f (take i l) ++ (x ∷ []))) k (pad-more N z x (map f (take i l)) (omega arith))
       ∙ ap (pad N z) (sym more)
-
-  -- a place that stands for what is there already
-  pub fill-blank : (d : A) (i : ℕ) → i < length l → length l ≤ N → f (getD l i d) ≡ z → pad N z (map f (take i l)) ≡ pad N z (map f (take (i + 1) l))
-  fill-blank d i h most e =
-      let t : List B = pad N z (map f (take i l)) in
-      let k : length (map f (take i l)) ≡ i = length-map (take i l) f ∙ length-take-le i l (omega arith) in
-      let blank : getD t i z ≡ z = getD-pad N z (map f (take i l)) i ∙ List·getD-eq-default (map f (take i l)) z (omega arith) in
-      sym (set-getD t i z) ∙ ap (set t i) (blank ∙ sym e) ∙ fill-next d i h most
 
   pub fill-all : (i : ℕ) → N ≤ i → length l ≡ N → pad N z (map f (take i l)) ≡ map f l
   fill-all i h e =

@@ -1,15 +1,14 @@
-// A host's state from its flat memory, and back.
+// A host's flat memory: made of a state, at a later reading, and what stands in a place of it.
 use crate::HeldMemory;
 use crate::HostMemory;
 use crate::orders_in::order_from;
-use crate::places::is_unused;
 use clock::Reading;
 use host::Held;
 use host::Host;
 use orders::Order;
 ghost use mathlib.Core.Path.{_≡_};
 ghost use Rattle.host.specs.State.{noHeld};
-ghost use Rattle.service.specs.Memory.{heldFrom, ownFrom, hostFrom, heldMemory, hostMemory};
+ghost use Rattle.service.specs.Memory.{heldFrom, ownFrom, heldMemory, hostMemory};
 ghost use Rattle.service.specs.Inside.{memoryAt};
 
 // The memory at a later reading, all else as it was.
@@ -19,39 +18,6 @@ pub(crate) fn later(memory: HostMemory, u: Reading) -> HostMemory
     let mut after = memory;
     after.last = u;
     after
-}
-
-// What memory stands for.
-pub(crate) fn host_from(memory: HostMemory) -> Host
-    ensures { λ r. ⌜ r ≡ hostFrom memory ⌝ }
-{
-    let places = memory.history;
-    let mut history = [no_held(); 32];
-    let mut i = 0;
-    while i < 32 {
-        let at = i;
-        let e = places[at];
-        i += 1;
-        // An unused place is there already.
-        if !is_unused(e) {
-            history[at] = held_from(e);
-        }
-    }
-    let plan = memory.plan;
-    let last = memory.last;
-    let starts = memory.starts;
-    Host {
-        plan,
-        rules: memory.rules,
-        d: memory.d,
-        bound: memory.bound,
-        own: own_from(memory.own),
-        last,
-        started: memory.started,
-        starts,
-        held: memory.held,
-        history,
-    }
 }
 
 fn no_held() -> Held

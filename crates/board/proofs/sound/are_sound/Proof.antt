@@ -11,7 +11,7 @@ use Rattle.lists.specs.Lists.{all, rising}
 use Rattle.lists.proofs.Loops.{first-next, first-none, left-next, left-none, all-turn, all-end}
 use Rattle.lists.proofs.TestLaws.{all-miss, each-all}
 use Rattle.board.specs.Board.{placeFits, isBlank, blank, before}
-use Rattle.board.proofs.Walks.{risesAfter, rises-turn, rises-end}
+use Rattle.lists.proofs.Walks.{risesAfter, rises-turn, rises-end}
 use Rattle.board.proofs.sound.are_sound.Statement.{statement}
 use Rattle.board.proofs.sound.are_sound.Tie as tie
 
@@ -57,7 +57,7 @@ returns-2 c =
     let a = c .before .before .before .before .before .before .before .before .before .args in
     let s = c .before .before .before .before .before .before .before .loop in
     let next = first-next (a .t1) (a .count) (search needs) blank (s .i) (search needs) in
-    sym (all-miss _ 1 (sym (rises-turn before (s .i) false (s .last) next (s .inv .2) (sym (not-true _ (c .if2 .taken))))))
+    sym (all-miss _ 1 (sym (rises-turn before (s .i) _ false (s .last) next (s .inv .2) refl (not-true _ (c .if2 .taken)))))
 
 add-i : tie.Need-add-i Inv-loop μ-loop Inv-loop2 μ-loop2
 add-i c = search needs
@@ -72,7 +72,7 @@ loop-again c =
     let next = first-next (a .t1) (a .count) (search needs) blank (s .i) (search needs) in (
       search needs,
       all-turn placeFits true true next (s .inv .1) (sym (not-false _ (c .before .before .before .if1 .left)) ∙ c .before .before .before .before .fits2 .ensures),
-      rises-turn before (s .i) true (s .last) next (s .inv .2) (sym (not-false _ (c .if2 .left))),
+      rises-turn before (s .i) _ true (s .last) next (s .inv .2) refl (not-false _ (c .if2 .left)),
     )
 
 loop2-holds : tie.Need-loop2-holds Inv-loop μ-loop Inv-loop2 μ-loop2
@@ -118,7 +118,7 @@ returns-4 c =
     (each-all _ (
       sym (all-end placeFits true none (s .inv .1)),
       (
-        sym (rises-end before (eqb (s .i) 0) (s .last) none (s .inv .2)),
+        rises-end before (eqb (s .i) 0) (s .last) none (s .inv .2),
         (sym (all-end isBlank true (left-none (a .t1) (t .i) (search needs)) (t .inv)), tt),
       ),
     ))

@@ -12,7 +12,7 @@ use Rattle.lists.specs.Lists.{all, rising}
 use Rattle.lists.proofs.Loops.{first-next, first-none, all-turn, all-end}
 use Rattle.lists.proofs.TestLaws.{all-miss, each-all}
 use Rattle.host.specs.State.{noHeld, isNoHeld, before, fits, ownStarted}
-use Rattle.host.proofs.Walks.{risesAfter, rises-turn, rises-end, places-turn, places-end}
+use Rattle.lists.proofs.Walks.{risesAfter, rises-turn, rises-end, places-turn, places-end}
 use Rattle.host.proofs.history.is_history.Statement.{statement}
 use Rattle.host.proofs.history.is_history.Tie as tie
 

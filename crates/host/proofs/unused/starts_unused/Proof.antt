@@ -6,7 +6,7 @@ use lib.ListN.{drop}
 use mathlib.Core.Bool.{_&&_}
 use Rattle.lists.specs.Lists.{all}
 use Rattle.host.specs.State.{noReading, isNoReading}
-use Rattle.host.proofs.Walks.{places-turn, places-end}
+use Rattle.lists.proofs.Walks.{places-turn, places-end}
 use Rattle.host.proofs.unused.starts_unused.Statement.{statement}
 use Rattle.host.proofs.unused.starts_unused.Tie as tie
 

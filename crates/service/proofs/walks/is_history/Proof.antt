@@ -11,7 +11,7 @@ use lib.ListN.{take, drop}
 use Rattle.lists.specs.Lists.{all, rising}
 use Rattle.lists.proofs.Loops.{first-next, first-none, all-turn, all-end}
 use Rattle.lists.proofs.TestLaws.{all-miss, each-all}
-use Rattle.host.proofs.Walks.{risesAfter, rises-turn, rises-end, places-turn, places-end}
+use Rattle.lists.proofs.Walks.{risesAfter, rises-turn, rises-end, places-turn, places-end}
 use Rattle.service.specs.Inside.{none, unusedIn, beforeIn, fitsIn, startedIn}
 use Rattle.service.proofs.walks.is_history.Statement.{statement}
 use Rattle.service.proofs.walks.is_history.Tie as tie
