@@ -81,14 +81,13 @@ pub(crate) fn after_tick(memory: HostMemory, u: Reading, out: &mut [u8]) -> Host
     let history = memory.history;
     let plan = memory.plan;
     let count = count_due(history, memory.held, memory.bound, u);
-    let left = deliver(out, history, memory.held, memory.bound, u, count);
-    let rest = left.history;
+    let rest = deliver(out, history, memory.held, count);
     HostMemory {
         bound: memory.bound,
         last: u,
         own: memory.own,
         started: memory.started,
-        held: left.held,
+        held: memory.held - count,
         starts,
         history: rest,
         plan,

@@ -14,7 +14,7 @@ ghost use Rattle.lists.specs.Lists.{all, rising, insert, pad, keep};
 ghost use Rattle.host.specs.Entries.{entryOf};
 ghost use Rattle.host.specs.Tick.{written};
 ghost use Rattle.service.specs.Memory.{heldFrom};
-ghost use Rattle.service.specs.Inside.{beforeIn, unusedIn, dueIn, waitsIn, none};
+ghost use Rattle.service.specs.Inside.{beforeIn, unusedIn, dueIn, none};
 
 // The history with one order more, in its place, which is sought from behind.
 pub(crate) fn with_held(history: [HeldMemory; 32], held: usize, x: HeldMemory) -> [HeldMemory; 32]
@@ -52,25 +52,16 @@ pub(crate) fn count_due(history: [HeldMemory; 32], held: usize, bound: u64, u: R
     i
 }
 
-// What a delivery leaves of the history.
-pub(crate) struct Rest {
-    pub held: usize,
-    pub history: [HeldMemory; 32],
-}
-
-// Writes the entries of those that are due, the first so many, from the front of the lent list, and moves the others to the front of the history.
+// Writes the entries of the first so many to the front of the lent list; what is left of the history has the others in front.
 pub(crate) fn deliver(
     out: &mut [u8],
     history: [HeldMemory; 32],
     held: usize,
-    bound: u64,
-    u: Reading,
     count: usize,
-) -> Rest
-    requires { ⌜ (held ≤ 32) × (rising beforeIn (take held history) ≡ true) × (count ≡ length (keep (dueIn bound (u .0)) (take held history))) × (16 * count ≤ length (now out)) ⌝ }
-    ensures { λ r. ⌜ r .held ≡ length (keep (waitsIn bound (u .0)) (take held history)) ⌝ }
-    ensures { λ r. ⌜ r .history ≡ pad 32 none (keep (waitsIn bound (u .0)) (take held history)) ⌝ }
-    ensures { λ r. ⌜ now (out .exit) ≡ written (map heldFrom (keep (dueIn bound (u .0)) (take held history))) (now (out .entry)) ⌝ }
+) -> [HeldMemory; 32]
+    requires { ⌜ (count ≤ held) × (held ≤ 32) × (16 * count ≤ length (now out)) ⌝ }
+    ensures { λ r. ⌜ r ≡ pad 32 none (drop count (take held history)) ⌝ }
+    ensures { λ r. ⌜ now (out .exit) ≡ written (map heldFrom (take count (take held history))) (now (out .entry)) ⌝ }
 {
     let mut i = 0;
     while i < count {
@@ -83,11 +74,7 @@ pub(crate) fn deliver(
         rest[i - count] = history[i];
         i += 1;
     }
-    let waiting = held - count;
-    Rest {
-        held: waiting,
-        history: rest,
-    }
+    rest
 }
 
 fn no_place() -> HeldMemory

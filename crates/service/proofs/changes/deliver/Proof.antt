@@ -1,4 +1,4 @@
--- Those that are due are the first: they are written one behind the other, and the others move to the front. Assumes nothing.
+-- The first so many are written one behind the other, and the others move to the front. Assumes nothing.
 use borrow.Author.Needs.{needs}
 use mathlib.Core.Path.{_≡_, refl, sym, ap, _∙_}
 use mathlib.Core.List.{List, [], _∷_, _++_, map}
@@ -6,40 +6,35 @@ use Prim.Native.Nat.{ℕ, _+_, _-_, _*_, _≤_}
 use native.Mathlib.Omega.{arith}
 use lib.ListN.{length, length-map, length-drop, take, drop, getD, set}
 use lib.Seq.{length-take-le, take-take}
-use Rattle.lists.specs.Lists.{keep, pad}
-use Rattle.lists.proofs.Loops.{keep-both}
+use Rattle.lists.specs.Lists.{pad}
 use Rattle.lists.proofs.MemberLaws.{map-append}
 use Rattle.lists.proofs.Places.{pad-more}
 use Rattle.host.specs.declared.Held.{Held}
 use Rattle.host.specs.Entries.{entriesOf}
+use Rattle.host.specs.Tick.{written}
 use Rattle.host.proofs.Writes.{entries-turn}
 use Rattle.service.specs.declared.HeldMemory.{HeldMemory}
 use Rattle.service.specs.Memory.{heldFrom}
-use Rattle.service.specs.Inside.{beforeIn, dueIn, waitsIn, none}
-use Rattle.service.proofs.Prefixes.{in-front, due-before, take-next, drop-next, drop-none}
+use Rattle.service.specs.Inside.{none}
+use Rattle.service.proofs.Prefixes.{take-next, drop-next, drop-none}
 use Rattle.service.proofs.changes.deliver.Statement.{statement}
 use Rattle.service.proofs.changes.deliver.Tie as tie
 
 abbrev Inv-loop : tie.InvT-loop
-Inv-loop out₀ held bound count history i₀ out i =
+Inv-loop out₀ held count history i₀ out i =
     (i ≤ count) × (count ≤ held) × (length out ≡ length out₀) × (out ≡ entriesOf (map heldFrom (take i history)) ++ drop (16 * i) out₀)
 
 abbrev μ-loop : tie.MeasureT-loop
-μ-loop out₀ held bound count history i₀ out i = count - i
+μ-loop out₀ held count history i₀ out i = count - i
 
 abbrev Inv-loop2 : tie.InvT-loop2
-Inv-loop2 out held bound count history i₀ rest₀ i rest = (count ≤ i) × (i ≤ held) × (rest ≡ pad 32 none (drop count (take i history)))
+Inv-loop2 out held count history i₀ rest₀ i rest = (count ≤ i) × (i ≤ held) × (rest ≡ pad 32 none (drop count (take i history)))
 
 abbrev μ-loop2 : tie.MeasureT-loop2
-μ-loop2 out held bound count history i₀ rest₀ i rest = held - i
+μ-loop2 out held count history i₀ rest₀ i rest = held - i
 
 loop-holds : tie.Need-loop-holds Inv-loop μ-loop Inv-loop2 μ-loop2
-loop-holds c =
-    let a = c .before .args in
-    let l : List HeldMemory = take (a .held) (a .t2) in
-    let long : length l ≡ a .held = length-take-le (a .held) (a .t2) (search needs) in
-    let both = keep-both (dueIn (a .bound) (a .u .0)) l in
-    (search needs, omega (arith, c .before .pre .2), refl, refl)
+loop-holds c = (search needs, search needs, refl, refl)
 
 mul-e : tie.Need-mul-e Inv-loop μ-loop Inv-loop2 μ-loop2
 mul-e c = search needs
@@ -121,36 +116,23 @@ loop2-again c =
           ∙ ap (pad 32 none) (sym (drop-next none (a .count) l (s .i) (omega arith) (omega arith))),
     )
 
-sub-waiting : tie.Need-sub-waiting Inv-loop μ-loop Inv-loop2 μ-loop2
-sub-waiting c = search needs
-
 same-length : tie.Need-same-length Inv-loop μ-loop Inv-loop2 μ-loop2
 same-length c = c .before .before .before .before .loop .inv .2
 
 returns : tie.Need-returns Inv-loop μ-loop Inv-loop2 μ-loop2
 returns c =
     let a = c .before .before .before .before .before .before .args in
-    let pre = c .before .before .before .before .before .before .pre in
     let s = c .before .before .before .before .loop in
     let s2 = c .before .loop2 in
-    let l : List HeldMemory = take (a .held) (a .t2) in
-    let p = dueIn (a .bound) (a .u .0) in
-    let long : length l ≡ a .held = length-take-le (a .held) (a .t2) (omega arith) in
-    let count : a .count ≡ length (keep p l) = pre .2 in
-    let both = keep-both p l in
-    let front = in-front beforeIn p (due-before (a .bound) (a .u .0)) l (pre .1) in
+    let l : List HeldMemory = a .t2 in
     let end : s .i ≡ a .count = omega arith in
     let end2 : s2 .i ≡ a .held = omega arith in
-    let due : take (s .i) (a .t2) ≡ keep p l = ap (λ (k : ℕ). take k (a .t2)) end ∙ sym (take-take (a .count) (a .held) (a .t2) (omega arith)) ∙ ap (λ (k : ℕ). take k l) count ∙ front .0 in
-    let wait : drop (a .count) (take (s2 .i) (a .t2)) ≡ keep (waitsIn (a .bound) (a .u .0)) l =
-    ap (λ (k : ℕ). drop (a .count) (take k (a .t2))) end2 ∙ ap (λ (k : ℕ). drop k l) count ∙ front .1 in (
-      omega arith,
-      (
-        s2 .inv .2 ∙ ap (pad 32 none) wait,
-        s .inv .3
-            ∙ ap (λ (t : List HeldMemory). entriesOf (map heldFrom t) ++ drop (16 * s .i) (a .out .now)) due
-            ∙ ap (λ (n : ℕ). entriesOf (map heldFrom (keep p l)) ++ drop (16 * n) (a .out .now)) (end ∙ count ∙ sym (length-map (keep p l) heldFrom)),
-      ),
+    let first : take (s .i) l ≡ take (a .count) (take (a .held) l) = ap (λ (k : ℕ). take k l) end ∙ sym (take-take (a .count) (a .held) l (omega arith)) in
+    let long : length (map heldFrom (take (s .i) l)) ≡ s .i = length-map (take (s .i) l) heldFrom ∙ length-take-le (s .i) l (omega arith) in (
+      s2 .inv .2 ∙ ap (λ (k : ℕ). pad 32 none (drop (a .count) (take k l))) end2,
+      s .inv .3
+          ∙ ap (λ (k : ℕ). entriesOf (map heldFrom (take (s .i) l)) ++ drop (16 * k) (a .out .now)) (sym long)
+          ∙ ap (λ (t : List HeldMemory). written (map heldFrom t) (a .out .now)) first,
     )
 
 pub deliver-spec : {M : Type 1} → statement M
@@ -179,6 +161,5 @@ deliver-spec =
     add-i-2
     loop2-less
     loop2-again
-    sub-waiting
     same-length
     returns)
