@@ -1,6 +1,6 @@
 // The memory after an accepted call of a host: the order put in its place, or what was due taken out.
+use crate::HeldMemory;
 use crate::HostMemory;
-use crate::changes::count_due;
 use crate::changes::deliver;
 use crate::changes::with_held;
 use crate::memory::held_memory;
@@ -14,8 +14,9 @@ ghost use mathlib.Core.Path.{_≡_};
 ghost use lib.ListN.{length};
 ghost use Rattle.host.specs.Start.{startRefusal, afterStart};
 ghost use Rattle.host.specs.Receive.{receiveRefusal, afterReceive};
-ghost use Rattle.host.specs.Tick.{tickRefusal, tickList, afterTick};
+ghost use Rattle.host.specs.Tick.{dueOf, tickRefusal, tickList, afterTick};
 ghost use Rattle.service.specs.Memory.{hostFrom, hostMemory};
+ghost use Rattle.service.specs.Inside.{memoryWith};
 
 pub(crate) fn after_start(memory: HostMemory, u: Reading, order: Order) -> HostMemory
     requires { ⌜ startRefusal (hostFrom memory) (u .0) order ≡ 0 ⌝ }
@@ -73,25 +74,21 @@ pub(crate) fn after_copy(
     }
 }
 
-pub(crate) fn after_tick(memory: HostMemory, u: Reading, out: &mut [u8]) -> HostMemory
-    requires { ⌜ tickRefusal (hostFrom memory) (u .0) (length (now out)) ≡ 0 ⌝ }
-    ensures { λ r. ⌜ (r ≡ hostMemory (afterTick (hostFrom memory) u)) × (now (out .exit) ≡ tickList (hostFrom memory) (u .0) (now (out .entry))) ⌝ }
+// What a tick leaves of the history.
+pub(crate) struct Rest {
+    pub history: [HeldMemory; 32],
+    pub held: usize,
+}
+
+// The entries of those that are due are written to the lent list.
+pub(crate) fn after_tick(memory: HostMemory, u: Reading, count: usize, out: &mut [u8]) -> Rest
+    requires { ⌜ (tickRefusal (hostFrom memory) (u .0) (length (now out)) ≡ 0) × (count ≡ length (dueOf (hostFrom memory) (u .0))) ⌝ }
+    ensures { λ r. ⌜ (memoryWith memory u (memory .started) (memory .starts) (r .held) (r .history) ≡ hostMemory (afterTick (hostFrom memory) u)) × (now (out .exit) ≡ tickList (hostFrom memory) (u .0) (now (out .entry))) ⌝ }
 {
-    let starts = memory.starts;
     let history = memory.history;
-    let plan = memory.plan;
-    let count = count_due(history, memory.held, memory.bound, u);
     let rest = deliver(out, history, memory.held, count);
-    HostMemory {
-        bound: memory.bound,
-        last: u,
-        own: memory.own,
-        started: memory.started,
-        held: memory.held - count,
-        starts,
+    Rest {
         history: rest,
-        plan,
-        rules: memory.rules,
-        d: memory.d,
+        held: memory.held - count,
     }
 }

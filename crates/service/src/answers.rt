@@ -4,6 +4,7 @@ use crate::changes::count_due;
 use crate::frames::frame_from;
 use crate::frames::is_sound;
 use crate::orders_in::order_from;
+use crate::places::is_due;
 use crate::walks::look;
 use clock::Reading;
 use host::Held;
@@ -11,14 +12,19 @@ use host::SendAnswer;
 use host::TickAnswer;
 use host::number_of;
 ghost use mathlib.Core.Path.{_≡_};
+ghost use mathlib.Core.Bool.{true};
 ghost use Prim.Native.Nat.{_≤_};
 ghost use lib.Dec.{eqb};
-ghost use Rattle.host.specs.Answers.{says, saysTick};
+ghost use lib.ListN.{length, take};
+ghost use Rattle.lists.specs.Lists.{rising, keep};
+ghost use Rattle.host.specs.Answers.{says};
 ghost use Rattle.host.specs.Start.{startRefusal, startSays};
 ghost use Rattle.host.specs.Receive.{receiveRefusal, receiveSays};
-ghost use Rattle.host.specs.Tick.{tickRefusal, tickSays};
+ghost use Rattle.host.specs.Tick.{tickSays};
+ghost use Rattle.host.specs.Calls.{ticks};
 ghost use Rattle.service.specs.Memory.{orderFrom, copyFrom, hostFrom};
-ghost use Rattle.service.specs.Calls.{sendNumber, tickNumber};
+ghost use Rattle.service.specs.Inside.{beforeIn, dueIn};
+ghost use Rattle.service.specs.Calls.{callLeft, sendNumber, tickNumber};
 
 // Whether a call is accepted, and its answer as one number.
 pub(crate) struct Answered {
@@ -68,32 +74,52 @@ fn sent(answer: SendAnswer) -> Answered
     }
 }
 
-pub(crate) fn to_tick(memory: HostMemory, u: u64, room: usize) -> Answered
-    ensures { λ r. ⌜ (r .accepted ≡ eqb (tickRefusal (hostFrom memory) u room) 0) × (r .number ≡ tickNumber (tickSays (hostFrom memory) u room)) ⌝ }
+// What a tick leaves as the last reading, how many orders it delivers, and its answer as one number.
+pub(crate) struct Ticked {
+    pub last: Reading,
+    pub count: usize,
+    pub number: u64,
+}
+
+pub(crate) fn to_tick(memory: HostMemory, u: u64, room: usize) -> Ticked
+    ensures { λ r. ⌜ (r .count ≡ tickSays (hostFrom memory) u room .count) × (r .number ≡ tickNumber (tickSays (hostFrom memory) u room)) × (r .last ≡ callLeft memory (record { 0 = u }) (ticks room) .last) ⌝ }
 {
+    let last = memory.last;
     if !is_sound(memory) {
-        return Answered {
-            accepted: false,
+        return Ticked {
+            last,
+            count: 0,
             number: 9,
         };
     }
-    let history = memory.history;
-    let count = count_due(history, memory.held, memory.bound, Reading(u));
-    ticked(host::tick_answer(frame_from(memory), Reading(u), room, count))
-}
-
-fn ticked(answer: TickAnswer) -> Answered
-    requires { ⌜ saysTick answer .count ≤ 32 ⌝ }
-    ensures { λ r. ⌜ (r .accepted ≡ eqb (saysTick answer .refusal) 0) × (r .number ≡ tickNumber (saysTick answer)) ⌝ }
-{
+    let count = due_count(memory, Reading(u));
+    let answer = host::tick_answer(frame_from(memory), Reading(u), room, count);
     match answer {
-        TickAnswer::Refused(refusal) => Answered {
-            accepted: false,
+        TickAnswer::Refused(refusal) => Ticked {
+            last,
+            count: 0,
             number: number_of(refusal) as u64,
         },
-        TickAnswer::Delivered(count) => Answered {
-            accepted: true,
+        TickAnswer::Delivered(count) => Ticked {
+            last: Reading(u),
+            count,
             number: 256 * (count as u64),
         },
     }
+}
+
+// How many are due: of most ticks none, which the first place tells.
+fn due_count(memory: HostMemory, u: Reading) -> usize
+    requires { ⌜ (memory .held ≤ 32) × (rising beforeIn (take (memory .held) (memory .history)) ≡ true) ⌝ }
+    ensures { λ r. ⌜ (r ≡ length (keep (dueIn (memory .bound) (u .0)) (take (memory .held) (memory .history)))) × (r ≤ memory .held) ⌝ }
+{
+    if memory.held == 0 {
+        return 0;
+    }
+    let history = memory.history;
+    let first = history[0];
+    if !is_due(first, memory.bound, u) {
+        return 0;
+    }
+    count_due(history, memory.held, memory.bound, u)
 }

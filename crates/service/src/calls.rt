@@ -3,26 +3,21 @@ use crate::HostLeft;
 use crate::HostMemory;
 use crate::afters::after_copy;
 use crate::afters::after_start;
-use crate::afters::after_tick;
 use crate::answers::to_copy;
 use crate::answers::to_start;
-use crate::answers::to_tick;
 use crate::memory::host_memory;
-use crate::memory::later;
 use crate::orders_in::order_from;
 use clock::Reading;
 use host::Held;
 use host::Verdict;
 use host::number_of;
 ghost use mathlib.Core.Path.{_≡_};
-ghost use lib.ListN.{length};
 ghost use Rattle.host.specs.Make.{makeRefusal};
 ghost use Rattle.host.specs.Start.{startSays};
 ghost use Rattle.host.specs.Receive.{receiveSays};
-ghost use Rattle.host.specs.Tick.{tickSays, tickList};
-ghost use Rattle.host.specs.Calls.{start, receive, ticks};
+ghost use Rattle.host.specs.Calls.{start, receive};
 ghost use Rattle.service.specs.Memory.{orderFrom, copyFrom, hostFrom};
-ghost use Rattle.service.specs.Calls.{callLeft, sendNumber, tickNumber, makeLeft};
+ghost use Rattle.service.specs.Calls.{callLeft, sendNumber, makeLeft};
 
 // A fresh host of the plan that stands in the memory.
 pub(crate) fn left_by_make(memory: HostMemory, rules: u8, own: u8) -> HostLeft
@@ -96,29 +91,6 @@ pub(crate) fn left_by_receive(
     }
     HostLeft {
         memory: after_copy(memory, Reading(u), link, hop, copy),
-        answer: answered.number,
-    }
-}
-
-pub(crate) fn left_by_tick(memory: HostMemory, u: u64, out: &mut [u8]) -> HostLeft
-    ensures { λ r. ⌜ (r .memory ≡ callLeft memory (record { 0 = u }) (ticks (length (now (out .entry))))) × ((r .answer ≡ tickNumber (tickSays (hostFrom memory) u (length (now (out .entry))))) × (now (out .exit) ≡ tickList (hostFrom memory) u (now (out .entry)))) ⌝ }
-{
-    let answered = to_tick(memory, u, out.len());
-    if !answered.accepted {
-        return HostLeft {
-            memory,
-            answer: answered.number,
-        };
-    }
-    // Most ticks deliver nothing.
-    if answered.number == 0 {
-        return HostLeft {
-            memory: later(memory, Reading(u)),
-            answer: 0,
-        };
-    }
-    HostLeft {
-        memory: after_tick(memory, Reading(u), out),
         answer: answered.number,
     }
 }

@@ -2,12 +2,14 @@
 use crate::BoardMemory;
 use crate::HostMemory;
 use crate::PlanMemory;
+use crate::afters::after_tick;
+use crate::answers::to_tick;
 use crate::boards::left_by_order;
 use crate::calls::left_by_make;
 use crate::calls::left_by_receive;
 use crate::calls::left_by_start;
-use crate::calls::left_by_tick;
 use crate::plans::left_by_plan;
+use clock::Reading;
 ghost use mathlib.Core.Path.{_≡_};
 ghost use lib.ListN.{length};
 ghost use Rattle.network.specs.Network.{planned};
@@ -77,9 +79,16 @@ pub extern "C" fn loom_receive(
 pub extern "C" fn loom_tick(memory: &mut HostMemory, u: u64, out: &mut [u8]) -> u64
     ensures { λ r. ⌜ (now (memory .exit) ≡ callLeft (now (memory .entry)) (record { 0 = u }) (ticks (length (now (out .entry))))) × ((r ≡ tickNumber (tickSays (hostFrom (now (memory .entry))) u (length (now (out .entry))))) × (now (out .exit) ≡ tickList (hostFrom (now (memory .entry))) u (now (out .entry)))) ⌝ }
 {
-    let left = left_by_tick(*memory, u, out);
-    *memory = left.memory;
-    left.answer
+    let found = to_tick(*memory, u, out.len());
+    if found.count == 0 {
+        memory.last = found.last;
+        return found.number;
+    }
+    let rest = after_tick(*memory, Reading(u), found.count, out);
+    memory.last = found.last;
+    memory.history = rest.history;
+    memory.held = rest.held;
+    found.number
 }
 
 #[no_mangle]

@@ -1,4 +1,4 @@
-// A host's flat memory: made of a state, at a later reading, and what stands in a place of it.
+// A host's flat memory: made of a state, and what stands in a place of it.
 use crate::HeldMemory;
 use crate::HostMemory;
 use crate::orders_in::order_from;
@@ -9,16 +9,6 @@ use orders::Order;
 ghost use mathlib.Core.Path.{_≡_};
 ghost use Rattle.host.specs.State.{noHeld};
 ghost use Rattle.service.specs.Memory.{heldFrom, ownFrom, heldMemory, hostMemory};
-ghost use Rattle.service.specs.Inside.{memoryAt};
-
-// The memory at a later reading, all else as it was.
-pub(crate) fn later(memory: HostMemory, u: Reading) -> HostMemory
-    ensures { λ r. ⌜ r ≡ memoryAt memory u ⌝ }
-{
-    let mut after = memory;
-    after.last = u;
-    after
-}
 
 fn no_held() -> Held
     ensures { λ r. ⌜ r ≡ noHeld ⌝ }

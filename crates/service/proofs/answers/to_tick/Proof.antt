@@ -1,70 +1,61 @@
--- Memory that stands for no sound state is refused 9; else the host's own answer is taken, by the frame and how many are due. Assumes nothing.
 use borrow.Author.Needs.{needs}
-use mathlib.Core.Path.{_≡_, sym, ap, _∙_}
-use mathlib.Core.Bool.{true, false}
-use Prim.Native.Nat.{ℕ}
-use native.Mathlib.Omega.{arith}
-use borrow.Author.Tests.{not-true, not-false}
-use lib.Dec.{eqb}
-use lib.ListN.{length}
-use Rattle.lists.specs.Tests.{firstOf}
-use Rattle.host.specs.declared.Host.{Host}
-use Rattle.host.specs.declared.Refusal.the-variants.{Unsound}
-use Rattle.host.specs.Answers.{SaidTick, saysTick}
-use Rattle.host.specs.State.{sound, bare}
-use Rattle.host.specs.Tick.{dueOf, tickTests, tickChecks, tickRefusal, tickSays}
-use Rattle.host.proofs.Answered.{unsound-first, tick-said}
-use Rattle.host.proofs.Facts.{sound-is}
-use Rattle.host.proofs.Numbers.{tick-refused, tick-refusal}
-use Rattle.service.specs.Memory.{hostFrom}
-use Rattle.service.specs.Calls.{tickNumber}
-use Rattle.service.proofs.Flats.{rise-in, due-count}
-use Rattle.service.proofs.Lefts.{said-few}
 use Rattle.service.proofs.answers.to_tick.Statement.{statement}
 use Rattle.service.proofs.answers.to_tick.Tie as tie
+use Rattle.service.proofs.answers.to_tick.Reads as reads
+use Rattle.service.proofs.answers.to_tick.Lts as lts
+use Rattle.host.proofs.number_of.Reads as number-of-reads
+use Rattle.host.proofs.tick_answer.Reads as tick-answer-reads
+use Rattle.service.proofs.answers.due_count.Reads as due-count-reads
+use Rattle.service.proofs.frames.frame_from.Reads as frame-from-reads
+use Rattle.service.proofs.frames.is_sound.Reads as is-sound-reads
 
+-- src/answers.rt:88:9
 is-sound-requires : tie.Need-is-sound-requires
 is-sound-requires c κs = search needs
 
+-- src/answers.rt:89:9
 returns : tie.Need-returns
-unfolding tickTests
-returns c =
-    let a = c .before .before .args in
-    let h : Host = hostFrom (a .memory) in
-    let no : sound h ≡ false = sym (c .before .is-sound .ensures) ∙ not-true _ (c .if1 .taken) in
-    let e = unsound-first h (tickChecks h (a .u) (a .room) (length (dueOf h (a .u)))) no in
-    (ap (λ (k : ℕ). eqb k 0) e, ap tickNumber (tick-refused Unsound _ _ e))
+returns c = ?
 
-count-due-requires : tie.Need-count-due-requires
-count-due-requires c κs =
-    let f = c .before .before .before .args .memory in
-    let s = sound-is (hostFrom f) (sym (c .before .before .is-sound .ensures) ∙ not-false _ (c .before .if1 .left)) in
-    (s .held, rise-in f s)
+-- src/answers.rt:95:9
+due-count-requires : tie.Need-due-count-requires
+due-count-requires c κs = ?
 
+-- src/answers.rt:96:36
 frame-from-requires : tie.Need-frame-from-requires
 frame-from-requires c κs = search needs
 
+-- src/answers.rt:96:9
 tick-answer-requires : tie.Need-tick-answer-requires
 tick-answer-requires c κs = search needs
 
-ticked-requires : tie.Need-ticked-requires
-ticked-requires c κs =
-    let f = c .before .before .before .before .before .before .args .memory in
-    let s = sound-is (hostFrom f) (sym (c .before .before .before .before .before .is-sound .ensures) ∙ not-false _ (c .before .before .before .before .if1 .left)) in
-    let a = c .before .before .before .before .before .before .args in
-    let count = c .before .before .count-due .result in
-    let checks = firstOf (tickChecks (bare (c .before .frame-from .result)) (a .u) (a .room) count) in
-    omega (arith, said-few checks count _ (c .tick-answer .ensures), c .before .before .count-due .ensures .1, s .held)
+-- src/answers.rt:98:29
+enum-known-answer : tie.Need-enum-known-answer
+enum-known-answer c = search needs
 
+-- src/answers.rt:101:21
+number-of-requires : tie.Need-number-of-requires
+number-of-requires c κs = search needs
+
+-- src/answers.rt:101:21
+cast-t15 : tie.Need-cast-t15
+cast-t15 c = search needs
+
+-- src/answers.rt:103:31
+enum-known-answer-2 : tie.Need-enum-known-answer-2
+enum-known-answer-2 c = search needs
+
+-- src/answers.rt:106:21
+mul-t18 : tie.Need-mul-t18
+mul-t18 c = ?
+
+-- src/answers.rt:84:1
 returns-2 : tie.Need-returns-2
-returns-2 c =
-    let a = c .before .before .before .before .before .before .before .args in
-    let h : Host = hostFrom (a .memory) in
-    let frame = c .before .before .frame-from in
-    let yes : sound h ≡ true = sym (c .before .before .before .before .before .before .is-sound .ensures) ∙ not-false _ (c .before .before .before .before .before .if1 .left) in
-    let said : saysTick (c .before .tick-answer .result) ≡ tickSays h (a .u) (a .room) =
-    tick-said h (a .u) (a .room) (frame .result) _ yes (frame .ensures) (c .before .before .before .count-due .ensures .0 ∙ due-count (a .memory) (a .u)) (c .before .tick-answer .ensures) in
-    (c .ticked .ensures .0 ∙ ap (λ (s : SaidTick). eqb (s .refusal) 0) said ∙ ap (λ (k : ℕ). eqb k 0) (tick-refusal (tickRefusal h (a .u) (a .room)) _), c .ticked .ensures .1 ∙ ap tickNumber said)
+returns-2 c = ?
+
+-- src/answers.rt:84:1
+returns-3 : tie.Need-returns-3
+returns-3 c = ?
 
 pub to-tick-spec : {M : Type 1} → statement M
 to-tick-spec =
@@ -72,8 +63,13 @@ to-tick-spec =
     (tie.spec
     is-sound-requires
     returns
-    count-due-requires
+    due-count-requires
     frame-from-requires
     tick-answer-requires
-    ticked-requires
-    returns-2)
+    enum-known-answer
+    number-of-requires
+    cast-t15
+    enum-known-answer-2
+    mul-t18
+    returns-2
+    returns-3)
