@@ -7,6 +7,7 @@ pub mod CountLaws
 pub mod MemberLaws
 pub mod Loops
 pub mod Walks
+pub mod Histories
 pub mod Places
 pub mod Listing
 pub mod Order
