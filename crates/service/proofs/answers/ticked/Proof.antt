@@ -1,14 +1,10 @@
 -- A refusal has its number, which is not 0; else the count stands above the refusal's byte. Assumes nothing.
 use borrow.Author.Needs.{needs}
-use mathlib.Core.Path.{_≡_, sym, ap, _∙_}
-use Prim.Native.Nat.{_*_}
+use mathlib.Core.Path.{refl, sym, ap}
 use native.Mathlib.Omega.{arith}
-use lib.Dec.{eqb}
 use Rattle.host.specs.declared.TickAnswer.{TickAnswer}
-use Rattle.host.specs.declared.TickAnswer.the-variants.{Refused, Delivered}
-use Rattle.host.specs.Answers.{number, saysTick}
+use Rattle.host.specs.Answers.{saysTick}
 use Rattle.host.proofs.Numbers.{not-none}
-use Rattle.service.specs.Calls.{tickNumber}
 use Rattle.service.proofs.answers.ticked.Statement.{statement}
 use Rattle.service.proofs.answers.ticked.Tie as tie
 
@@ -31,18 +27,10 @@ mul-t8 c =
     omega (arith, few, n)
 
 returns : tie.Need-returns
-returns c =
-    let w = c .before .before .answer .given .0 .0 in
-    let is = c .before .before .answer .given .1 in
-    let whole : number w ≡ tickNumber (saysTick (Refused w)) = omega arith in
-    (sym (not-none w) ∙ ap (λ (s : TickAnswer). eqb (saysTick s .refusal) 0) (sym is), c .number-of .ensures ∙ whole ∙ ap (λ (s : TickAnswer). tickNumber (saysTick s)) (sym is))
+returns c = rw (c .before .before .answer .given .1) (sym (not-none (c .before .before .answer .given .0 .0)), omega (arith, c .number-of .ensures))
 
 returns-2 : tie.Need-returns-2
-returns-2 c =
-    let n = c .before .answer2 .given .0 .0 in
-    let is = c .before .answer2 .given .1 in
-    let whole : 256 * n ≡ tickNumber (saysTick (Delivered n)) = omega arith in
-    (ap (λ (s : TickAnswer). eqb (saysTick s .refusal) 0) (sym is), whole ∙ ap (λ (s : TickAnswer). tickNumber (saysTick s)) (sym is))
+returns-2 c = rw (c .before .answer2 .given .1) (refl, omega arith)
 
 pub ticked-spec : {M : Type 1} → statement M
 ticked-spec =
