@@ -1,7 +1,7 @@
 -- Held orders come by rising stamp: where the first is not due, none is, and a tick leaves all. Assumes nothing.
 use mathlib.Core.Path.{_≡_, refl, sym, ap, _∙_}
 use mathlib.Core.Logic.{inl, inr}
-use mathlib.Core.Bool.{Bool, true, false, not, _||_, true≢false}
+use mathlib.Core.Bool.{Bool, true, false, not, _||_}
 use mathlib.Core.List.{List, [], _∷_}
 use Prim.Native.Nat.{ℕ, zero, suc, _+_, _≤_}
 use native.Mathlib.Omega.{arith}
@@ -9,9 +9,9 @@ use borrow.Author.Tests.{leb-true, le-leb, ne-eqb}
 use lib.Dec.{eqb}
 use lib.ListN.{length, take, getD}
 use lib.Seq.{length-take-le}
-use Rattle.lists.specs.Lists.{rising, risingFrom, keep, pad}
-use Rattle.lists.proofs.Bools.{false-unless, and-left, and-right}
+use Rattle.lists.specs.Lists.{rising, keep, pad}
 use Rattle.lists.proofs.Places.{padded}
+use Rattle.lists.proofs.Rises.{none-pass}
 use Rattle.clock.specs.declared.Reading.{Reading}
 use Rattle.host.specs.declared.Held.{Held}
 use Rattle.host.specs.declared.Host.{Host}
@@ -24,13 +24,6 @@ use Rattle.host.proofs.Names.{Goes, before-is}
 -- ---- a list that rises, and a test that an element passes with each later one
 
 module _ {A : Type 0} (r : A → A → Bool) (p : A → Bool) (with-later : (x y : A) → r x y ≡ true → p y ≡ true → p x ≡ true) where
-  none-pass : (x : A) (l : List A) → risingFrom r x l ≡ true → p x ≡ false → (keep p (x ∷ l) ≡ []) × (keep (λ (y : A). not (p y)) (x ∷ l) ≡ x ∷ l)
-  none-pass x [] up e = (rw e, rw e)
-  none-pass x (y ∷ l) up e =
-      let later : p y ≡ false = false-unless (p y) (λ q. true≢false (sym (with-later x y (and-left (r x y) (risingFrom r y l) up) q) ∙ e)) in
-      let rest = none-pass y l (and-right (r x y) (risingFrom r y l) up) later in
-      (rw e (rest .0), rw e (ap (λ (t : List A). x ∷ t) (rest .1)))
-
   pub first-tells : (d : A) (n : ℕ) (l : List A) → n ≤ length l → rising r (take n l) ≡ true → (eqb n 0 || not (p (getD l 0 d))) ≡ eqb (length (keep p (take n l))) 0
   first-tells d zero l fits up = refl
   first-tells d (suc n) [] fits up = let f : ⊥ = omega arith in absurd f
@@ -38,7 +31,7 @@ module _ {A : Type 0} (r : A → A → Bool) (p : A → Bool) (with-later : (x y
     where
       go : (t : Bool) → p x ≡ t → not (p x) ≡ eqb (length (keep p (x ∷ take n l))) 0
       go true e = rw e (sym (ne-eqb (suc (length (keep p (take n l)))) 0 (λ q. omega arith)))
-      go false e = ap not e ∙ sym (ap (λ (t : List A). eqb (length t) 0) (none-pass x (take n l) up e .0))
+      go false e = ap not e ∙ sym (ap (λ (t : List A). eqb (length t) 0) (none-pass r p with-later x (take n l) up e .0))
 
   pub all-wait : (l : List A) → rising r l ≡ true → length (keep p l) ≡ 0 → keep (λ (y : A). not (p y)) l ≡ l
   all-wait [] up e = refl
@@ -46,11 +39,11 @@ module _ {A : Type 0} (r : A → A → Bool) (p : A → Bool) (with-later : (x y
     where
       go : (t : Bool) → p x ≡ t → keep (λ (y : A). not (p y)) (x ∷ l) ≡ x ∷ l
       go true q = let some : suc (length (keep p l)) ≡ 0 = rw q at e in let f : ⊥ = omega arith in absurd f
-      go false q = none-pass x l up q .1
+      go false q = none-pass r p with-later x l up q .1
 
 -- ---- the orders of a host
 
-due-before : (Δ u : ℕ) (x y : Held) → before x y ≡ true → due Δ u y ≡ true → due Δ u x ≡ true
+pub due-before : (Δ u : ℕ) (x y : Held) → before x y ≡ true → due Δ u y ≡ true → due Δ u x ≡ true
 due-before Δ u x y b e = le-leb _ _ (go (before-is x y b))
   where
     late : y .stamp .0 + Δ ≤ u

@@ -7,6 +7,8 @@ pub mod CountLaws
 pub mod MemberLaws
 pub mod Loops
 pub mod Walks
+pub mod Histories
+pub mod Looks
 pub mod Places
 pub mod Listing
 pub mod Order

@@ -1,15 +1,15 @@
--- Rising lists: each element stands before all that follow, so none comes twice; what is left of the front rises, and one more behind rises.
--- Assumes nothing.
+-- Rising lists: each element stands before all that follow, so none comes twice; what is left of the front rises, and one more behind rises;
+-- where a test that an element passes with each later one fails at the first, it fails at all. Assumes nothing.
 use mathlib.Core.Path.{_≡_, refl, sym, ap, _∙_, subst}
 use mathlib.Core.Logic.{_⊎_, inl, inr}
-use mathlib.Core.Bool.{Bool, true, false, true≢false}
+use mathlib.Core.Bool.{Bool, true, false, not, true≢false}
 use mathlib.Core.List.{List, [], _∷_, _++_}
 use Prim.Native.Nat.{ℕ, zero, suc, _-_}
 use native.Mathlib.Numerals.{sub-one}
 use lib.ListN.{length, getD, drop}
-use Rattle.lists.specs.Lists.{all, risingFrom, rising}
+use Rattle.lists.specs.Lists.{all, risingFrom, rising, keep}
 use Rattle.lists.specs.Members.{In}
-use Rattle.lists.proofs.Bools.{and-left, and-right}
+use Rattle.lists.proofs.Bools.{false-unless, and-left, and-right}
 use Rattle.lists.proofs.Listed.{all-member}
 use Rattle.lists.proofs.Order.{rising-tail, from-less}
 
@@ -65,3 +65,12 @@ module _ {A : Type 0} (r : A → A → Bool) (trans : (x y z : A) → r x y ≡ 
   once (z ∷ l) up x y (inl e) (inr i) a b = absurd (true≢false (sym (ap (λ (w : A). r w y) e ∙ all-member (r z) l (first-before z l up) y i) ∙ a))
   once (z ∷ l) up x y (inr h) (inl q) a b = absurd (true≢false (sym (ap (λ (w : A). r w x) q ∙ all-member (r z) l (first-before z l up) x h) ∙ b))
   once (z ∷ l) up x y (inr h) (inr i) a b = once l (rising-tail r z l up) x y h i a b
+
+-- a test that an element passes with each later one: where the first fails it, none is kept by it, and all are by its contrary
+pub none-pass : {A : Type 0} (r : A → A → Bool) (p : A → Bool) → ((x y : A) → r x y ≡ true → p y ≡ true → p x ≡ true) → (x : A) (l : List A) → risingFrom r x l ≡ true → p x ≡ false
+    → (keep p (x ∷ l) ≡ []) × (keep (λ (y : A). not (p y)) (x ∷ l) ≡ x ∷ l)
+none-pass r p with-later x [] up e = (rw e, rw e)
+none-pass {A} r p with-later x (y ∷ l) up e =
+    let later : p y ≡ false = false-unless (p y) (λ q. true≢false (sym (with-later x y (and-left (r x y) (risingFrom r y l) up) q) ∙ e)) in
+    let rest = none-pass r p with-later y l (and-right (r x y) (risingFrom r y l) up) later in
+    (rw e (rest .0), rw e (ap (λ (t : List A). x ∷ t) (rest .1)))

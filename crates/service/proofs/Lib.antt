@@ -2,7 +2,6 @@
 mod Forms
 mod Converts
 mod Maps
-mod Looks
 mod Lefts
 pub mod Back
 mod Still

@@ -1,18 +1,16 @@
 -- A history rises by stamp, so those that are due stand in front of those that wait. Assumes nothing.
 use mathlib.Core.Path.{_≡_, refl, sym, ap, _∙_}
-use mathlib.Core.Logic.{inl, inr}
-use mathlib.Core.Bool.{Bool, true, false, not, true≢false}
+use mathlib.Core.Bool.{Bool, true, false, not}
 use mathlib.Core.List.{List, [], _∷_, _++_}
 use Prim.Native.Nat.{ℕ, suc, _+_, _≤_, _<_}
 use native.Mathlib.Numerals.{add-one}
 use native.Mathlib.Omega.{arith}
-use borrow.Author.Tests.{leb-true, le-leb}
 use lib.ListN.{length, take, drop, getD, length-take, drop-of-length-le}
 use lib.Seq.{length-take-le, take-suc, drop-append-le}
-use Rattle.lists.specs.Lists.{rising, risingFrom, keep}
-use Rattle.lists.proofs.Bools.{false-unless, and-left, and-right}
+use Rattle.lists.specs.Lists.{rising, keep}
 use Rattle.lists.proofs.Order.{rising-tail}
-use Rattle.host.proofs.Names.{Goes, before-is}
+use Rattle.lists.proofs.Rises.{none-pass}
+use Rattle.host.proofs.Fronts as host
 use Rattle.service.specs.declared.HeldMemory.{HeldMemory}
 use Rattle.service.specs.Memory.{heldFrom}
 use Rattle.service.specs.Inside.{beforeIn, dueIn}
@@ -20,13 +18,6 @@ use Rattle.service.specs.Inside.{beforeIn, dueIn}
 -- ---- a list that rises, and a test that an element passes with each later one
 
 module _ {A : Type 0} (r : A → A → Bool) (p : A → Bool) (with-later : (x y : A) → r x y ≡ true → p y ≡ true → p x ≡ true) where
-  none-pass : (x : A) (l : List A) → risingFrom r x l ≡ true → p x ≡ false → (keep p (x ∷ l) ≡ []) × (keep (λ (y : A). not (p y)) (x ∷ l) ≡ x ∷ l)
-  none-pass x [] up e = (rw e, rw e)
-  none-pass x (y ∷ l) up e =
-      let later : p y ≡ false = false-unless (p y) (λ q. true≢false (sym (with-later x y (and-left (r x y) (risingFrom r y l) up) q) ∙ e)) in
-      let rest = none-pass y l (and-right (r x y) (risingFrom r y l) up) later in
-      (rw e (rest .0), rw e (ap (λ (t : List A). x ∷ t) (rest .1)))
-
   -- those that pass are the first, and those that fail the others
   pub in-front : (l : List A) → rising r l ≡ true → (take (length (keep p l)) l ≡ keep p l) × (drop (length (keep p l)) l ≡ keep (λ (y : A). not (p y)) l)
   in-front [] up = (refl, refl)
@@ -38,7 +29,7 @@ module _ {A : Type 0} (r : A → A → Bool) (p : A → Bool) (with-later : (x y
       go : (take (length (keep p l)) l ≡ keep p l) × (drop (length (keep p l)) l ≡ keep (λ (y : A). not (p y)) l) → (t : Bool) → p x ≡ t
           → (take k (x ∷ l) ≡ keep p (x ∷ l)) × (drop k (x ∷ l) ≡ keep (λ (y : A). not (p y)) (x ∷ l))
       go rest true e = (rw e (ap (λ (t : List A). x ∷ t) (rest .0)), rw e (rest .1))
-      go rest false e = let none = none-pass x l up e in (rw (none .0), rw (none .0) (sym (none .1)))
+      go rest false e = let none = none-pass r p with-later x l up e in (rw (none .0), rw (none .0) (sym (none .1)))
 
   -- a loop that counts them: what it counted, with what is left to count, is the whole, n
   module _ {left rest : List A} {x : A} {n : ℕ} (i : ℕ) (next : left ≡ x ∷ rest) (inv : i + length (keep p left) ≡ n) where
@@ -46,7 +37,7 @@ module _ {A : Type 0} (r : A → A → Bool) (p : A → Bool) (with-later : (x y
     front-turn e = let more : i + length (keep p (x ∷ rest)) ≡ n = rw next at inv in let one : i + suc (length (keep p rest)) ≡ n = rw e at more in omega arith
 
     pub front-end : rising r left ≡ true → p x ≡ false → i ≡ n
-    front-end up e = let last : i + length (keep p (x ∷ rest)) ≡ n = rw next at inv in let none : i + 0 ≡ n = rw (none-pass x rest (rw next at up) e .0) at last in omega arith
+    front-end up e = let last : i + length (keep p (x ∷ rest)) ≡ n = rw next at inv in let none : i + 0 ≡ n = rw (none-pass r p with-later x rest (rw next at up) e .0) at last in omega arith
 
 -- ---- the first elements, with one more
 
@@ -63,11 +54,4 @@ module _ {A : Type 0} where
 -- ---- the places of a history
 
 pub due-before : (Δ u : ℕ) (x y : HeldMemory) → beforeIn x y ≡ true → dueIn Δ u y ≡ true → dueIn Δ u x ≡ true
-due-before Δ u x y b e = le-leb _ _ (go (before-is (heldFrom x) (heldFrom y) b))
-  where
-    late : y .stamp .0 + Δ ≤ u
-    late = leb-true _ _ e
-
-    go : Goes (heldFrom x) (heldFrom y) → x .stamp .0 + Δ ≤ u
-    go (inl l) = omega (arith, late)
-    go (inr s) = let same : x .stamp .0 ≡ y .stamp .0 = s .0 in omega (arith, late)
+due-before Δ u x y = host.due-before Δ u (heldFrom x) (heldFrom y)

@@ -1,17 +1,13 @@
 -- What is written so far is a paste of as many bytes. Assumes nothing.
 use borrow.Author.Needs.{needs}
 use native.Mathlib.Omega.{arith}
-use mathlib.Core.Path.{_≡_, refl, ap, _∙_}
-use Prim.Native.Nat.{ℕ, _+_, _-_, _≤_}
-use mathlib.Core.List.{List}
-use lib.ListN.{length, getD, set, length-set}
-use lib.Seq.{paste, paste-zero, paste-suc}
-use native.Mathlib.Numerals.{add-one}
+use Prim.Native.Nat.{_-_, _≤_}
+use Rattle.lists.proofs.Walks.{Pasted, paste-start, paste-turn, paste-end}
 use Rattle.host.proofs.entries.put_entry.Statement.{statement}
 use Rattle.host.proofs.entries.put_entry.Tie as tie
 
 abbrev Inv-loop : tie.InvT-loop
-Inv-loop out₀ at bytes j₀ out j = (j ≤ 16) × (length out ≡ length out₀) × (out ≡ paste out₀ at bytes j)
+Inv-loop out₀ at bytes j₀ out j = (j ≤ 16) × Pasted out₀ at bytes out j
 
 abbrev μ-loop : tie.MeasureT-loop
 μ-loop out₀ at bytes j₀ out j = 16 - j
@@ -20,7 +16,7 @@ entry-requires : tie.Need-entry-requires Inv-loop μ-loop
 entry-requires c κs = search needs
 
 loop-holds : tie.Need-loop-holds Inv-loop μ-loop
-loop-holds c = (search needs, refl, paste-zero (c .before .before .args .out .now) (c .before .before .args .at) (c .entry .result))
+loop-holds c = (search needs, paste-start)
 
 array-read-out : tie.Need-array-read-out Inv-loop μ-loop
 array-read-out c = search needs
@@ -38,24 +34,13 @@ loop-less : tie.Need-loop-less Inv-loop μ-loop
 loop-less c = search needs
 
 loop-again : tie.Need-loop-again Inv-loop μ-loop
-loop-again c =
-    let a = c .before .before .before .before .args in
-    let s = c .before .loop in
-    let b = c .before .before .entry .result in (
-      search needs,
-      length-set (s .out) (a .at + s .j) (getD b (s .j) 0) ∙ s .inv .1,
-      rw add-one (ap (λ (t : List ℕ). set t (a .at + s .j) (getD b (s .j) 0)) (s .inv .2) ∙ paste-suc (a .out .now) (a .at) b (s .j) 0 (omega arith) (omega arith)),
-    )
+loop-again c = (search needs, paste-turn 0 (c .before .loop .inv .1) (omega arith) (omega arith))
 
 same-length : tie.Need-same-length Inv-loop μ-loop
-same-length c = c .before .loop .inv .1
+same-length c = c .before .loop .inv .1 .long
 
 returns : tie.Need-returns Inv-loop μ-loop
-returns c =
-    let a = c .before .before .before .before .args in
-    let s = c .before .loop in
-    let j : s .j ≡ 16 = omega arith in
-    s .inv .2 ∙ ap (λ (k : ℕ). paste (a .out .now) (a .at) (c .before .before .entry .result) k) j ∙ ap (λ (t : List ℕ). paste (a .out .now) (a .at) t 16) (c .before .before .entry .ensures)
+returns c = paste-end 16 (c .before .loop .inv .1) (omega arith) (c .before .before .entry .ensures)
 
 pub put-entry-spec : {M : Type 1} → statement M
 put-entry-spec =

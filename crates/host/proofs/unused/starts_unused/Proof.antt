@@ -1,23 +1,20 @@
 -- What is left to test is the rest of the places; each turn tests the first. Assumes nothing.
 use borrow.Author.Needs.{needs}
-use mathlib.Core.Path.{_≡_, refl}
+use mathlib.Core.Path.{refl}
 use Prim.Native.Nat.{_-_}
-use lib.ListN.{drop}
-use mathlib.Core.Bool.{_&&_}
-use Rattle.lists.specs.Lists.{all}
 use Rattle.host.specs.State.{noReading, isNoReading}
-use Rattle.lists.proofs.Walks.{places-turn, places-end}
+use Rattle.lists.proofs.Walks.{Tested, tested-start, tested-turn, tested-end}
 use Rattle.host.proofs.unused.starts_unused.Statement.{statement}
 use Rattle.host.proofs.unused.starts_unused.Tie as tie
 
 abbrev Inv-loop : tie.InvT-loop
-Inv-loop used starts ok₀ i₀ ok i = (ok && all isNoReading (drop i starts)) ≡ all isNoReading (drop used starts)
+Inv-loop used starts ok₀ i₀ ok i = Tested isNoReading starts used ok i
 
 abbrev μ-loop : tie.MeasureT-loop
 μ-loop used starts ok₀ i₀ ok i = 4 - i
 
 loop-holds : tie.Need-loop-holds Inv-loop μ-loop
-loop-holds c = refl
+loop-holds c = tested-start refl
 
 mul-is-no-reading : tie.Need-mul-is-no-reading Inv-loop μ-loop
 mul-is-no-reading c = search needs
@@ -35,16 +32,10 @@ loop-less : tie.Need-loop-less Inv-loop μ-loop
 loop-less c = search needs
 
 loop-again : tie.Need-loop-again Inv-loop μ-loop
-loop-again c =
-    let a = c .before .before .before .before .args in
-    let s = c .before .before .before .loop in
-    places-turn isNoReading noReading (a .t1) (s .ok) (c .is-no-reading .result) (s .i) (search needs) (s .inv) (c .is-no-reading .ensures)
+loop-again c = tested-turn noReading (c .before .before .before .loop .inv) (search needs) (c .is-no-reading .ensures)
 
 returns : tie.Need-returns Inv-loop μ-loop
-returns c =
-    let a = c .before .before .args in
-    let s = c .before .loop in
-    places-end isNoReading noReading (a .t1) (s .ok) (s .i) (search needs) (s .inv)
+returns c = tested-end (c .before .loop .inv) (search needs)
 
 pub starts-unused-spec : {M : Type 1} → statement M
 starts-unused-spec =

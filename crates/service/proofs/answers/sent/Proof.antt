@@ -1,14 +1,8 @@
 -- A refusal has its number, which is not 0; else the hop and the links stand above the refusal's byte. Assumes nothing.
 use borrow.Author.Needs.{needs}
-use mathlib.Core.Path.{_≡_, sym, ap, _∙_}
-use Prim.Native.Nat.{_+_, _*_}
+use mathlib.Core.Path.{refl, sym}
 use native.Mathlib.Omega.{arith}
-use lib.Dec.{eqb}
-use Rattle.host.specs.declared.SendAnswer.{SendAnswer}
-use Rattle.host.specs.declared.SendAnswer.the-variants.{Refused, Sent}
-use Rattle.host.specs.Answers.{number, says}
 use Rattle.host.proofs.Numbers.{not-none}
-use Rattle.service.specs.Calls.{sendNumber}
 use Rattle.service.proofs.answers.sent.Statement.{statement}
 use Rattle.service.proofs.answers.sent.Tie as tie
 
@@ -40,19 +34,10 @@ add-t12 : tie.Need-add-t12
 add-t12 c = search needs
 
 returns : tie.Need-returns
-returns c =
-    let w = c .before .before .answer .given .0 .0 in
-    let is = c .before .before .answer .given .1 in
-    let whole : number w ≡ sendNumber (says (Refused w)) = omega arith in
-    (sym (not-none w) ∙ ap (λ (s : SendAnswer). eqb (says s .refusal) 0) (sym is), c .number-of .ensures ∙ whole ∙ ap (λ (s : SendAnswer). sendNumber (says s)) (sym is))
+returns c = rw (c .before .before .answer .given .1) (sym (not-none (c .before .before .answer .given .0 .0)), omega (arith, c .number-of .ensures))
 
 returns-2 : tie.Need-returns-2
-returns-2 c =
-    let links = c .before .answer2 .given .0 .0 in
-    let hop = c .before .answer2 .given .0 .1 .0 in
-    let is = c .before .answer2 .given .1 in
-    let whole : 256 * hop + 65536 * links ≡ sendNumber (says (Sent links hop)) = omega arith in
-    (ap (λ (s : SendAnswer). eqb (says s .refusal) 0) (sym is), whole ∙ ap (λ (s : SendAnswer). sendNumber (says s)) (sym is))
+returns-2 c = rw (c .before .answer2 .given .1) (refl, omega arith)
 
 pub sent-spec : {M : Type 1} → statement M
 sent-spec =

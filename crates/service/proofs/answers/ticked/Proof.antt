@@ -1,0 +1,37 @@
+-- A refusal has its number, which is not 0; else the count stands above the refusal's byte. Assumes nothing.
+use borrow.Author.Needs.{needs}
+use mathlib.Core.Path.{refl, sym, ap}
+use native.Mathlib.Omega.{arith}
+use Rattle.host.specs.declared.TickAnswer.{TickAnswer}
+use Rattle.host.specs.Answers.{saysTick}
+use Rattle.host.proofs.Numbers.{not-none}
+use Rattle.service.proofs.answers.ticked.Statement.{statement}
+use Rattle.service.proofs.answers.ticked.Tie as tie
+
+enum-known-answer : tie.Need-enum-known-answer
+enum-known-answer c = search needs
+
+number-of-requires : tie.Need-number-of-requires
+number-of-requires c κs = search needs
+
+cast-t6 : tie.Need-cast-t6
+cast-t6 c = search needs
+
+enum-known-answer-2 : tie.Need-enum-known-answer-2
+enum-known-answer-2 c = search needs
+
+mul-t8 : tie.Need-mul-t8
+mul-t8 c =
+    let few = c .before .before .before .pre in
+    let n = ap (λ (s : TickAnswer). saysTick s .count) (c .before .answer2 .given .1) in
+    omega (arith, few, n)
+
+returns : tie.Need-returns
+returns c = rw (c .before .before .answer .given .1) (sym (not-none (c .before .before .answer .given .0 .0)), omega (arith, c .number-of .ensures))
+
+returns-2 : tie.Need-returns-2
+returns-2 c = rw (c .before .answer2 .given .1) (refl, omega arith)
+
+pub ticked-spec : {M : Type 1} → statement M
+ticked-spec =
+    tie.close (tie.spec enum-known-answer number-of-requires cast-t6 enum-known-answer-2 mul-t8 returns returns-2)
