@@ -10,6 +10,7 @@ use lib.Seq.{length-take-le}
 use Rattle.lists.specs.Lists.{all, any, rising, keep, insert, pad}
 use Rattle.lists.specs.Tests.{allOf}
 use Rattle.lists.proofs.Bools.{or-true-left}
+use Rattle.lists.proofs.Loops.{keep-both}
 use Rattle.lists.proofs.Places.{length-insert}
 use Rattle.clock.specs.declared.Reading.{Reading}
 use Rattle.orders.specs.declared.Order.{Order}
@@ -89,6 +90,9 @@ module _ (f : HostMemory) where
 
   pub due-count : (u : ℕ) → length (keep (dueIn (f .bound) u) l) ≡ length (dueOf h u)
   due-count u = sym (ap length (due-in u) ∙ length-map (keep (dueIn (f .bound) u) l) heldFrom)
+
+  pub due-few : (u : ℕ) → f .held ≤ length (f .history) → length (dueOf h u) ≤ f .held
+  due-few u long = omega (arith, due-count u, keep-both (dueIn (f .bound) u) l, length-take-le (f .held) (f .history) long)
 
   -- ---- a sound state with other parts, of which the history stands in places
 

@@ -4,7 +4,7 @@ mod Converts
 mod Maps
 mod Lefts
 pub mod Back
-mod Still
+mod Ticks
 mod Prefixes
 mod Flats
 mod Sizes

@@ -17,7 +17,7 @@ ghost use Prim.Native.Nat.{_≤_};
 ghost use lib.Dec.{eqb};
 ghost use lib.ListN.{length, take};
 ghost use Rattle.lists.specs.Lists.{rising, keep};
-ghost use Rattle.host.specs.Answers.{says};
+ghost use Rattle.host.specs.Answers.{says, saysTick, unless};
 ghost use Rattle.host.specs.Start.{startRefusal, startSays};
 ghost use Rattle.host.specs.Receive.{receiveRefusal, receiveSays};
 ghost use Rattle.host.specs.Tick.{tickSays};
@@ -94,6 +94,13 @@ pub(crate) fn to_tick(memory: HostMemory, u: u64, room: usize) -> Ticked
     }
     let count = due_count(memory, Reading(u));
     let answer = host::tick_answer(frame_from(memory), Reading(u), room, count);
+    delivered(answer, last, Reading(u))
+}
+
+fn delivered(answer: TickAnswer, last: Reading, u: Reading) -> Ticked
+    requires { ⌜ saysTick answer .count ≤ 32 ⌝ }
+    ensures { λ r. ⌜ (r .count ≡ saysTick answer .count) × (r .number ≡ tickNumber (saysTick answer)) × (r .last ≡ unless (saysTick answer .refusal) u last) ⌝ }
+{
     match answer {
         TickAnswer::Refused(refusal) => Ticked {
             last,
@@ -101,7 +108,7 @@ pub(crate) fn to_tick(memory: HostMemory, u: u64, room: usize) -> Ticked
             number: number_of(refusal) as u64,
         },
         TickAnswer::Delivered(count) => Ticked {
-            last: Reading(u),
+            last: u,
             count,
             number: 256 * (count as u64),
         },

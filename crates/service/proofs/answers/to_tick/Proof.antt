@@ -1,61 +1,76 @@
+-- Memory that stands for no sound state is refused 9; else the host's own answer is taken, by the frame and how many are due. Assumes nothing.
 use borrow.Author.Needs.{needs}
+use mathlib.Core.Path.{_≡_, refl, sym, ap, _∙_}
+use mathlib.Core.Bool.{true, false}
+use Prim.Native.Nat.{ℕ}
+use native.Mathlib.Omega.{arith}
+use borrow.Author.Tests.{not-true, not-false}
+use lib.ListN.{length}
+use Rattle.lists.specs.Tests.{firstOf}
+use Rattle.clock.specs.declared.Reading.{Reading}
+use Rattle.host.specs.declared.Host.{Host}
+use Rattle.host.specs.declared.Refusal.the-variants.{Unsound}
+use Rattle.host.specs.Answers.{SaidTick, saysTick, unless}
+use Rattle.host.specs.State.{sound, bare}
+use Rattle.host.specs.Tick.{dueOf, tickTests, tickChecks, tickRefusal, tickSays}
+use Rattle.host.proofs.Answered.{unsound-first, tick-said}
+use Rattle.host.proofs.Facts.{sound-is}
+use Rattle.host.proofs.Numbers.{kept, tick-refused, tick-refusal}
+use Rattle.service.specs.Memory.{hostFrom}
+use Rattle.service.specs.Calls.{tickNumber}
+use Rattle.service.proofs.Flats.{rise-in, due-count}
+use Rattle.service.proofs.Ticks.{said-few, last-left}
 use Rattle.service.proofs.answers.to_tick.Statement.{statement}
 use Rattle.service.proofs.answers.to_tick.Tie as tie
-use Rattle.service.proofs.answers.to_tick.Reads as reads
-use Rattle.service.proofs.answers.to_tick.Lts as lts
-use Rattle.host.proofs.number_of.Reads as number-of-reads
-use Rattle.host.proofs.tick_answer.Reads as tick-answer-reads
-use Rattle.service.proofs.answers.due_count.Reads as due-count-reads
-use Rattle.service.proofs.frames.frame_from.Reads as frame-from-reads
-use Rattle.service.proofs.frames.is_sound.Reads as is-sound-reads
 
--- src/answers.rt:88:9
 is-sound-requires : tie.Need-is-sound-requires
 is-sound-requires c κs = search needs
 
--- src/answers.rt:89:9
 returns : tie.Need-returns
-returns c = ?
+unfolding tickTests
+returns c =
+    let a = c .before .before .before .args in
+    let h : Host = hostFrom (a .memory) in
+    let u : Reading = record { 0 = a .u } in
+    let no : sound h ≡ false = sym (c .before .is-sound .ensures) ∙ not-true _ (c .if1 .taken) in
+    let e = unsound-first h (tickChecks h (a .u) (a .room) (length (dueOf h (a .u)))) no in
+    let said = tick-refused Unsound _ (length (dueOf h (a .u))) e in
+    (ap (λ (s : SaidTick). s .count) said, ap tickNumber said, kept Unsound _ u (a .memory .last) e ∙ last-left (a .memory) u (a .room))
 
--- src/answers.rt:95:9
 due-count-requires : tie.Need-due-count-requires
-due-count-requires c κs = ?
+due-count-requires c κs =
+    let f = c .before .before .before .args .memory in
+    let s = sound-is (hostFrom f) (sym (c .before .is-sound .ensures) ∙ not-false _ (c .if1 .left)) in
+    (s .held, rise-in f s)
 
--- src/answers.rt:96:36
 frame-from-requires : tie.Need-frame-from-requires
 frame-from-requires c κs = search needs
 
--- src/answers.rt:96:9
 tick-answer-requires : tie.Need-tick-answer-requires
 tick-answer-requires c κs = search needs
 
--- src/answers.rt:98:29
-enum-known-answer : tie.Need-enum-known-answer
-enum-known-answer c = search needs
+delivered-requires : tie.Need-delivered-requires
+delivered-requires c κs =
+    let a = c .before .before .before .before .before .before .args in
+    let s = sound-is (hostFrom (a .memory)) (sym (c .before .before .before .before .is-sound .ensures) ∙ not-false _ (c .before .before .before .if1 .left)) in
+    let count = c .before .before .due-count .result in
+    let checks = firstOf (tickChecks (bare (c .before .frame-from .result)) (a .u) (a .room) count) in
+    omega (arith, said-few checks count _ (c .tick-answer .ensures), c .before .before .due-count .ensures .1, s .held)
 
--- src/answers.rt:101:21
-number-of-requires : tie.Need-number-of-requires
-number-of-requires c κs = search needs
-
--- src/answers.rt:101:21
-cast-t15 : tie.Need-cast-t15
-cast-t15 c = search needs
-
--- src/answers.rt:103:31
-enum-known-answer-2 : tie.Need-enum-known-answer-2
-enum-known-answer-2 c = search needs
-
--- src/answers.rt:106:21
-mul-t18 : tie.Need-mul-t18
-mul-t18 c = ?
-
--- src/answers.rt:84:1
 returns-2 : tie.Need-returns-2
-returns-2 c = ?
-
--- src/answers.rt:84:1
-returns-3 : tie.Need-returns-3
-returns-3 c = ?
+returns-2 c =
+    let a = c .before .before .before .before .before .before .before .args in
+    let h : Host = hostFrom (a .memory) in
+    let u : Reading = record { 0 = a .u } in
+    let frame = c .before .before .frame-from in
+    let yes : sound h ≡ true = sym (c .before .before .before .before .before .is-sound .ensures) ∙ not-false _ (c .before .before .before .before .if1 .left) in
+    let said : saysTick (c .before .tick-answer .result) ≡ tickSays h (a .u) (a .room) =
+    tick-said h (a .u) (a .room) (frame .result) _ yes (frame .ensures) (c .before .before .before .due-count .ensures .0 ∙ due-count (a .memory) (a .u)) (c .before .tick-answer .ensures) in
+    let refused : saysTick (c .before .tick-answer .result) .refusal ≡ tickRefusal h (a .u) (a .room) = ap (λ (s : SaidTick). s .refusal) said ∙ tick-refusal (tickRefusal h (a .u) (a .room)) _ in (
+      c .delivered .ensures .0 ∙ ap (λ (s : SaidTick). s .count) said,
+      c .delivered .ensures .1 ∙ ap tickNumber said,
+      c .delivered .ensures .2 ∙ ap (λ (k : ℕ). unless k u (a .memory .last)) refused ∙ last-left (a .memory) u (a .room),
+    )
 
 pub to-tick-spec : {M : Type 1} → statement M
 to-tick-spec =
@@ -66,10 +81,5 @@ to-tick-spec =
     due-count-requires
     frame-from-requires
     tick-answer-requires
-    enum-known-answer
-    number-of-requires
-    cast-t15
-    enum-known-answer-2
-    mul-t18
-    returns-2
-    returns-3)
+    delivered-requires
+    returns-2)
