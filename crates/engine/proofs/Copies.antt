@@ -1,5 +1,7 @@
 -- How many copies a run can have sent. Assumes nothing.
+use mathlib.Core.Path.{_≡_, ap}
 use mathlib.Core.Bool.{Bool, true, false, cond}
+use mathlib.Core.List.{List}
 use Prim.Native.Nat.{ℕ, _+_, _*_, _≤_}
 use native.Mathlib.Omega.{arith}
 use lib.Dec.{eqb}
@@ -8,11 +10,12 @@ use Rattle.orders.specs.declared.Order.{Order}
 use Rattle.network.specs.Network.{m, has}
 use Rattle.schedule.specs.declared.Schedule.{Schedule}
 use Rattle.engine.specs.declared.Post.{Post}
+use Rattle.engine.specs.declared.Station.{Station}
 use Rattle.engine.specs.declared.World.{World}
 use Rattle.engine.specs.Turns.{inTurn}
 use Rattle.engine.specs.Parts.{copyFrom, startOf, receiver, start}
 use Rattle.engine.specs.Run.{sent, sendOne, send, handed, hand, arrives, arriveOne, told, tell, startOne, tickAll, arrived, play, opening, world}
-use Rattle.engine.specs.Inside.{Playable}
+use Rattle.engine.specs.Inside.{Playable, worldOf}
 use Rattle.engine.proofs.Turns.{grows}
 
 abbrev pub copiesOf : World → ℕ
@@ -57,3 +60,19 @@ module _ (s : Schedule) (z : Playable s) where
   pub world-most : (t : ℕ) → copiesOf (world s t) ≤ t * 4800
   unfolding opening
   world-most t = let all = grows (play s) copiesOf 4800 t (opening s) play-most in omega arith
+
+  -- within a tick, while copies arrive and then while orders are started
+  pub arriving-few : (t c : ℕ) (l : List Station) (w v : World) → t ≤ 4096 → c ≤ 384 → w ≡ world s t
+      → v ≡ inTurn c (arriveOne s (record { 0 = t })) (worldOf l (w .post) (w .refusals)) → copiesOf v ≤ 100_000_000
+  arriving-few t c l w v soon few now e =
+      let a = world-most t in
+      let b = arrive-grows (record { 0 = t }) c (worldOf l (w .post) (w .refusals)) in
+      let before = ap copiesOf now in
+      let after = ap copiesOf e in
+      omega arith
+
+  pub starting-few : (t : Tick) (k : ℕ) (w v : World) → k ≤ 16 → copiesOf w ≤ 100_000_000 → v ≡ inTurn k (startOne s t) w → copiesOf v ≤ 200_000_000
+  starting-few t k w v few most e =
+      let a = start-grows t k w in
+      let after = ap copiesOf e in
+      omega arith
