@@ -26,7 +26,7 @@ at-most μ k a b true h = h
 at-most μ k a b false h = omega arith
 
 module _ (s : Schedule) (z : Playable s) where
-  pub send-most : (t : Tick) (k p links : ℕ) (post : Post) → send s t k p links post .copies ≤ post .copies + 12
+  send-most : (t : Tick) (k p links : ℕ) (post : Post) → send s t k p links post .copies ≤ post .copies + 12
   send-most t k p links post =
       let all = grows (sendOne s t k p links) (λ (q : Post). q .copies) 1 (m (s .plan)) post
       (λ l q. at-most (λ (q : Post). q .copies) 1 (sent s t (copyFrom (s .plan) k p l) q) q (has links l) (omega arith)) in
@@ -42,10 +42,10 @@ module _ (s : Schedule) (z : Playable s) where
       let o : Order = start s k .order in
       at-most copiesOf 12 (tell s t k p o w) w (eqb (start s k .tick .0) (t .0)) (send-most t k p (told s t p o w .links) (w .post))
 
-  pub arrive-grows : (t : Tick) (c : ℕ) (w : World) → copiesOf (inTurn c (arriveOne s t) w) ≤ copiesOf w + c * 12
+  arrive-grows : (t : Tick) (c : ℕ) (w : World) → copiesOf (inTurn c (arriveOne s t) w) ≤ copiesOf w + c * 12
   arrive-grows t c w = grows (arriveOne s t) copiesOf 12 c w (arrive-most t)
 
-  pub start-grows : (t : Tick) (k : ℕ) (w : World) → copiesOf (inTurn k (startOne s t) w) ≤ copiesOf w + k * 12
+  start-grows : (t : Tick) (k : ℕ) (w : World) → copiesOf (inTurn k (startOne s t) w) ≤ copiesOf w + k * 12
   start-grows t k w = grows (startOne s t) copiesOf 12 k w (start-most t)
 
   play-most : (t : ℕ) (w : World) → copiesOf (play s t w) ≤ copiesOf w + 4800
@@ -57,7 +57,7 @@ module _ (s : Schedule) (z : Playable s) where
       let few = z .few in
       omega arith
 
-  pub world-most : (t : ℕ) → copiesOf (world s t) ≤ t * 4800
+  world-most : (t : ℕ) → copiesOf (world s t) ≤ t * 4800
   unfolding opening
   world-most t = let all = grows (play s) copiesOf 4800 t (opening s) play-most in omega arith
 

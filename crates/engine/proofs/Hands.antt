@@ -2,7 +2,7 @@
 use mathlib.Core.Path.{_≡_, ap, _∙_}
 use mathlib.Core.List.{List}
 use Prim.Native.Nat.{ℕ}
-use lib.ListN.{getD, set}
+use lib.ListN.{set}
 use Rattle.clock.specs.declared.Reading.{Reading}
 use Rattle.clock.specs.declared.Tick.{Tick}
 use Rattle.orders.specs.declared.Order.{Order}
@@ -17,9 +17,9 @@ use Rattle.engine.specs.declared.Acted.{Acted}
 use Rattle.engine.specs.declared.Post.{Post}
 use Rattle.engine.specs.declared.Station.{Station}
 use Rattle.engine.specs.declared.World.{World}
-use Rattle.engine.specs.Parts.{noStation, clock, start, order, startOf, linkOf, receiver}
+use Rattle.engine.specs.Parts.{clock, order, startOf, linkOf, receiver}
 use Rattle.engine.specs.Run.{station, send, hand, tell}
-use Rattle.engine.specs.Inside.{worldOf, acted}
+use Rattle.engine.specs.Inside.{worldOf, postOf, acted}
 
 abbrev parts : Station → Host → ℕ → ℕ → Acted
 parts b h links r = record { station = record { host = h; log = b .log }; links = links; refusal = r }
@@ -58,3 +58,7 @@ module _ (s : Schedule) (t : Tick) (w : World) (a : Acted) (post : Post) where
   told-to k p o ea ep =
       ap (λ (x : Post). worldOf (set (w .stations) p (a .station)) x (set (w .refusals) k (a .refusal))) ep
       ∙ ap (λ (x : Acted). worldOf (set (w .stations) p (x .station)) (send s t k p (x .links) (w .post)) (set (w .refusals) k (x .refusal))) ea
+
+-- a world is its parts
+pub of-parts : (l k : List Station) (a b : List Tick) (m n : ℕ) (r q : List ℕ) → l ≡ k → a ≡ b → m ≡ n → r ≡ q → worldOf l (postOf a m) r ≡ worldOf k (postOf b n) q
+of-parts l k a b m n r q el ea em er = cc

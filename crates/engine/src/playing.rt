@@ -36,42 +36,34 @@ pub(crate) fn play_all(s: Schedule) -> Outcome
     let mut t: u64 = 0;
     while t <= s.end.0 {
         let now = Tick(t);
-        let mut p: u8 = 0;
-        while p < s.plan.hosts {
+        for p in 0..s.plan.hosts {
             let at = p as usize;
             let u = clock_of(s, now, p);
-            p += 1;
             if is_idle(stations[at], u) {
                 stations[at] = at_later(stations[at], u);
             } else {
                 stations[at] = tick_one(stations[at], u);
             }
         }
-        let mut c: usize = 0;
-        while c < 24 * s.start_count {
-            let at = c;
-            c += 1;
-            if is_now(arrivals[at], now) {
-                let q = receiver_of(s, at);
-                let acted = hand(s, now, at, q, stations[q as usize]);
+        for c in 0..24 * s.start_count {
+            if is_now(arrivals[c], now) {
+                let q = receiver_of(s, c);
+                let acted = hand(s, now, c, q, stations[q as usize]);
                 let station = acted.station;
                 stations[q as usize] = station;
-                let post = send_all(s, now, at / 24, q, acted.links, arrivals, copies);
+                let post = send_all(s, now, c / 24, q, acted.links, arrivals, copies);
                 arrivals = post.arrivals;
                 copies = post.copies;
             }
         }
-        let mut k: usize = 0;
-        while k < s.start_count {
-            let at = k;
-            let start = s.starts[at];
-            k += 1;
+        for k in 0..s.start_count {
+            let start = s.starts[k];
             if starts_now(start, now) {
                 let acted = tell(s, now, start, stations[start.host as usize]);
                 let station = acted.station;
                 stations[start.host as usize] = station;
-                refusals[at] = acted.refusal;
-                let post = send_all(s, now, at, start.host, acted.links, arrivals, copies);
+                refusals[k] = acted.refusal;
+                let post = send_all(s, now, k, start.host, acted.links, arrivals, copies);
                 arrivals = post.arrivals;
                 copies = post.copies;
             }

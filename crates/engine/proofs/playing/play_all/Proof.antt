@@ -1,7 +1,8 @@
 -- At the head of the loop the world is that before tick t. Within: each host below p has ticked, and one to which nothing is due has only taken the
 -- reading; then each copy below c that arrives is handed over; then each start below k that is at this tick is told to its host. Assumes nothing.
 use borrow.Author.Needs.{needs}
-use mathlib.Core.Path.{_≡_, sym, ap, _∙_}
+use mathlib.Core.Path.{_≡_, refl, sym, ap, _∙_}
+use mathlib.Core.Logic.{⊎-elim}
 use Prim.Native.Nat.{ℕ, _+_, _-_, _*_, _≤_}
 use native.Mathlib.Omega.{arith}
 use lib.Dec.{eqb}
@@ -17,7 +18,7 @@ use Rattle.engine.specs.Inside.{worldOf, postOf}
 use Rattle.engine.proofs.Turns.{no-turn, turn, last-turn, turn-if, turn-else}
 use Rattle.engine.proofs.Copies.{arriving-few, starting-few}
 use Rattle.engine.proofs.Openings.{opens}
-use Rattle.engine.proofs.Hands.{handed-over, told-to}
+use Rattle.engine.proofs.Hands.{handed-over, told-to, of-parts}
 use Rattle.engine.proofs.Lasts.{turn-room}
 use Rattle.engine.proofs.Idle.{idle-ticked}
 use Rattle.engine.proofs.Plays.{played, left}
@@ -25,24 +26,24 @@ use Rattle.engine.proofs.playing.play_all.Statement.{statement}
 use Rattle.engine.proofs.playing.play_all.Tie as tie
 
 abbrev Inv-loop2 : tie.InvT-loop2
-Inv-loop2 s stations₀ arrivals copies refusals t now p₀ stations p = (p ≤ n (s .plan)) × (stations ≡ inTurn p (tickOne s now) stations₀)
+Inv-loop2 s stations₀ arrivals copies refusals t now p₀ p-end stations p = (p ≤ n (s .plan)) × (stations ≡ inTurn p (tickOne s now) stations₀)
 
 abbrev μ-loop2 : tie.MeasureT-loop2
-μ-loop2 s stations₀ arrivals copies refusals t now p₀ stations p = n (s .plan) - p
+μ-loop2 s stations₀ arrivals copies refusals t now p₀ p-end stations p = n (s .plan) - p
 
 abbrev Inv-loop3 : tie.InvT-loop3
-Inv-loop3 s stations₀ arrivals₀ copies₀ refusals t now p c₀ stations arrivals copies c =
+Inv-loop3 s stations₀ arrivals₀ copies₀ refusals t now c₀ c-end stations arrivals copies c =
     (c ≤ 24 * s .«start_count») × (worldOf stations (postOf arrivals copies) refusals ≡ inTurn c (arriveOne s now) (worldOf stations₀ (postOf arrivals₀ copies₀) refusals))
 
 abbrev μ-loop3 : tie.MeasureT-loop3
-μ-loop3 s stations₀ arrivals₀ copies₀ refusals t now p c₀ stations arrivals copies c = 24 * s .«start_count» - c
+μ-loop3 s stations₀ arrivals₀ copies₀ refusals t now c₀ c-end stations arrivals copies c = 24 * s .«start_count» - c
 
 abbrev Inv-loop4 : tie.InvT-loop4
-Inv-loop4 s stations₀ arrivals₀ copies₀ refusals₀ t now p c k₀ stations arrivals copies refusals k =
+Inv-loop4 s stations₀ arrivals₀ copies₀ refusals₀ t now k₀ k-end stations arrivals copies refusals k =
     (k ≤ s .«start_count») × (worldOf stations (postOf arrivals copies) refusals ≡ inTurn k (startOne s now) (worldOf stations₀ (postOf arrivals₀ copies₀) refusals₀))
 
 abbrev μ-loop4 : tie.MeasureT-loop4
-μ-loop4 s stations₀ arrivals₀ copies₀ refusals₀ t now p c k₀ stations arrivals copies refusals k = s .«start_count» - k
+μ-loop4 s stations₀ arrivals₀ copies₀ refusals₀ t now k₀ k-end stations arrivals copies refusals k = s .«start_count» - k
 
 abbrev Inv-loop : tie.InvT-loop
 Inv-loop s stations₀ arrivals₀ copies₀ refusals₀ t₀ stations arrivals copies refusals t = (t ≤ s .end .0 + 1) × (worldOf stations (postOf arrivals copies) refusals ≡ world s t)
@@ -64,9 +65,6 @@ cast-at c = let most = c .before .before .before .before .before .pre .n-most in
 
 clock-of-requires : tie.Need-clock-of-requires Inv-loop2 μ-loop2 Inv-loop3 μ-loop3 Inv-loop4 μ-loop4 Inv-loop μ-loop
 clock-of-requires c κs = let z = c .before .before .before .before .before .pre in let most = z .n-most in let end = z .end in (omega arith, omega arith)
-
-add-p : tie.Need-add-p Inv-loop2 μ-loop2 Inv-loop3 μ-loop3 Inv-loop4 μ-loop4 Inv-loop μ-loop
-add-p c = let most = c .before .before .before .before .before .before .pre .n-most in search needs
 
 mul-is-idle : tie.Need-mul-is-idle Inv-loop2 μ-loop2 Inv-loop3 μ-loop3 Inv-loop4 μ-loop4 Inv-loop μ-loop
 mul-is-idle c = search needs
@@ -92,20 +90,6 @@ mul-stations c = search needs
 array-set-from-stations : tie.Need-array-set-from-stations Inv-loop2 μ-loop2 Inv-loop3 μ-loop3 Inv-loop4 μ-loop4 Inv-loop μ-loop
 array-set-from-stations c = let most = c .before .before .before .before .before .before .before .before .before .before .before .pre .n-most in omega arith
 
-loop2-less : tie.Need-loop2-less Inv-loop2 μ-loop2 Inv-loop3 μ-loop3 Inv-loop4 μ-loop4 Inv-loop μ-loop
-loop2-less c = search needs
-
-loop2-again : tie.Need-loop2-again Inv-loop2 μ-loop2 Inv-loop3 μ-loop3 Inv-loop4 μ-loop4 Inv-loop μ-loop
-loop2-again c = let a = c .before .before .before .before .before .before .before .before .before .before .before .args in
-    let z = c .before .before .before .before .before .before .before .before .before .before .before .pre in
-    let l = c .before .before .before .before .before .before .before .before .before .loop in
-    let h = c .before .before .before .before .before .before .before .loop2 in
-    let end = z .end in
-    let u = c .before .before .before .before .before .clock-of .ensures in
-    let room = turn-room (a .t1) z (l .t) (h .p) (worldOf (l .stations) (postOf (l .arrivals) (l .copies)) (l .refusals)) (h .stations) _ (omega arith) (omega arith) (l .inv .1) (h .inv .1) u in
-    let new = c .at-later .ensures ∙ idle-ticked _ _ room (sym (c .before .before .before .is-idle .ensures) ∙ c .before .before .if1 .taken) ∙ ap (λ (v : Reading). ticked v (getD (h .stations) (h .p) noStation)) u in
-    (search needs, turn (tickOne (a .t1) (record { 0 = l .t })) (h .p) (l .stations) (h .stations) _ (h .inv .1) (ap (set (h .stations) (h .p)) new))
-
 mul-tick-one : tie.Need-mul-tick-one Inv-loop2 μ-loop2 Inv-loop3 μ-loop3 Inv-loop4 μ-loop4 Inv-loop μ-loop
 mul-tick-one c = search needs
 
@@ -126,26 +110,36 @@ mul-stations-2 c = search needs
 array-set-from-stations-2 : tie.Need-array-set-from-stations-2 Inv-loop2 μ-loop2 Inv-loop3 μ-loop3 Inv-loop4 μ-loop4 Inv-loop μ-loop
 array-set-from-stations-2 c = let most = c .before .before .before .before .before .before .before .before .before .before .before .pre .n-most in omega arith
 
-loop2-less-2 : tie.Need-loop2-less-2 Inv-loop2 μ-loop2 Inv-loop3 μ-loop3 Inv-loop4 μ-loop4 Inv-loop μ-loop
-loop2-less-2 c = search needs
+add-p : tie.Need-add-p Inv-loop2 μ-loop2 Inv-loop3 μ-loop3 Inv-loop4 μ-loop4 Inv-loop μ-loop
+add-p c = let most = c .before .before .before .before .before .before .before .before .before .pre .n-most in search needs
 
-loop2-again-2 : tie.Need-loop2-again-2 Inv-loop2 μ-loop2 Inv-loop3 μ-loop3 Inv-loop4 μ-loop4 Inv-loop μ-loop
-loop2-again-2 c = let a = c .before .before .before .before .before .before .before .before .before .before .before .args in
-    let l = c .before .before .before .before .before .before .before .before .before .loop in
-    let h = c .before .before .before .before .before .before .before .loop2 in
-    let new = c .tick-one .ensures ∙ ap (λ (u : Reading). ticked u (getD (h .stations) (h .p) noStation)) (c .before .before .before .before .before .clock-of .ensures) in
-    (search needs, turn (tickOne (a .t1) (record { 0 = l .t })) (h .p) (l .stations) (h .stations) _ (h .inv .1) (ap (set (h .stations) (h .p)) new))
+loop2-less : tie.Need-loop2-less Inv-loop2 μ-loop2 Inv-loop3 μ-loop3 Inv-loop4 μ-loop4 Inv-loop μ-loop
+loop2-less c = search needs
+
+loop2-again : tie.Need-loop2-again Inv-loop2 μ-loop2 Inv-loop3 μ-loop3 Inv-loop4 μ-loop4 Inv-loop μ-loop
+loop2-again c = let s = c .before .before .before .before .before .before .before .before .before .args .t1 in
+    let z = c .before .before .before .before .before .before .before .before .before .pre in
+    let l = c .before .before .before .before .before .before .before .loop in
+    let h = c .before .before .before .before .before .loop2 in
+    let end = z .end in
+    let u = c .before .before .before .clock-of .ensures in
+    let room = turn-room s z (l .t) (h .p) (worldOf (l .stations) (postOf (l .arrivals) (l .copies)) (l .refusals)) (h .stations) _ (omega arith) (omega arith) (l .inv .1) (h .inv .1) u in
+    let shown = ap (λ (v : Reading). ticked v (getD (h .stations) (h .p) noStation)) u in (
+      search needs,
+      turn (tickOne s (record { 0 = l .t })) (h .p) (l .stations) (h .stations) _ (h .inv .1)
+          (⊎-elim
+          (λ x. x .3 ∙ ap (set (h .stations) (h .p)) (x .2 .ensures ∙ idle-ticked _ _ room (sym (c .before .is-idle .ensures) ∙ x .0 .taken) ∙ shown))
+          (λ x. x .3 ∙ ap (set (h .stations) (h .p)) (x .2 .ensures ∙ shown))
+          (c .if1 .came)),
+    )
+
+mul-c-end : tie.Need-mul-c-end Inv-loop2 μ-loop2 Inv-loop3 μ-loop3 Inv-loop4 μ-loop4 Inv-loop μ-loop
+mul-c-end c = let few = c .before .before .before .before .before .pre .few in search needs
 
 loop3-holds : tie.Need-loop3-holds Inv-loop2 μ-loop2 Inv-loop3 μ-loop3 Inv-loop4 μ-loop4 Inv-loop μ-loop
 loop3-holds c = let l = c .before .before .before .loop in
     let h = c .before .loop2 in
     (search needs, no-turn (arriveOne (c .before .before .before .before .before .args .t1) (record { 0 = l .t })) (worldOf (h .stations) (postOf (l .arrivals) (l .copies)) (l .refusals)))
-
-mul-loop3 : tie.Need-mul-loop3 Inv-loop2 μ-loop2 Inv-loop3 μ-loop3 Inv-loop4 μ-loop4 Inv-loop μ-loop
-mul-loop3 c = let few = c .before .before .before .before .before .before .pre .few in search needs
-
-add-c : tie.Need-add-c Inv-loop2 μ-loop2 Inv-loop3 μ-loop3 Inv-loop4 μ-loop4 Inv-loop μ-loop
-add-c c = let few = c .before .before .before .before .before .before .before .pre .few in search needs
 
 mul-is-now : tie.Need-mul-is-now Inv-loop2 μ-loop2 Inv-loop3 μ-loop3 Inv-loop4 μ-loop4 Inv-loop μ-loop
 mul-is-now c = search needs
@@ -191,30 +185,29 @@ send-all-requires c κs = let a = c .before .before .before .before .before .bef
     let count = arriving-few (a .t1) z (l .t) (g .c) (h .stations) (worldOf (l .stations) (postOf (l .arrivals) (l .copies)) (l .refusals)) (worldOf (g .stations) (postOf (g .arrivals) (g .copies)) (l .refusals)) (omega arith) (omega arith) (l .inv .1) (g .inv .1) in
     (z .m-most, omega arith, omega arith, omega arith)
 
+add-c : tie.Need-add-c Inv-loop2 μ-loop2 Inv-loop3 μ-loop3 Inv-loop4 μ-loop4 Inv-loop μ-loop
+add-c c = let few = c .before .before .before .before .before .before .before .before .before .before .pre .few in search needs
+
 loop3-less : tie.Need-loop3-less Inv-loop2 μ-loop2 Inv-loop3 μ-loop3 Inv-loop4 μ-loop4 Inv-loop μ-loop
 loop3-less c = search needs
 
 loop3-again : tie.Need-loop3-again Inv-loop2 μ-loop2 Inv-loop3 μ-loop3 Inv-loop4 μ-loop4 Inv-loop μ-loop
-loop3-again c = let s = c .before .before .before .before .before .before .before .before .before .before .before .before .before .before .before .before .args .t1 in
-    let l = c .before .before .before .before .before .before .before .before .before .before .before .before .before .before .loop in
-    let h = c .before .before .before .before .before .before .before .before .before .before .before .before .loop2 in
-    let g = c .before .before .before .before .before .before .before .before .before .before .loop3 in
-    let q = c .before .before .before .before .before .receiver-of in
-    let now : Tick = record { 0 = l .t } in
-    let w : World = worldOf (g .stations) (postOf (g .arrivals) (g .copies)) (l .refusals) in
-    let new = handed-over s now w (c .before .before .before .hand .result) (c .before .send-all .result) (g .c) (q .result) (q .ensures .0) (c .before .before .before .hand .ensures) (c .before .send-all .ensures) in
-    (search needs, turn-if (λ (i : ℕ) (x : World). arrives now i x) (λ (i : ℕ) (x : World). hand s now i (receiver (s .plan) i) x) (g .c) (worldOf (h .stations) (postOf (l .arrivals) (l .copies)) (l .refusals)) w _ (g .inv .1) (sym (c .before .before .before .before .before .before .before .is-now .ensures) ∙ c .before .before .before .before .before .before .if2 .taken) new)
-
-loop3-less-2 : tie.Need-loop3-less-2 Inv-loop2 μ-loop2 Inv-loop3 μ-loop3 Inv-loop4 μ-loop4 Inv-loop μ-loop
-loop3-less-2 c = search needs
-
-loop3-again-2 : tie.Need-loop3-again-2 Inv-loop2 μ-loop2 Inv-loop3 μ-loop3 Inv-loop4 μ-loop4 Inv-loop μ-loop
-loop3-again-2 c = let s = c .before .before .before .before .before .before .before .before .before .before .args .t1 in
+loop3-again c = let s = c .before .before .before .before .before .before .before .before .before .before .args .t1 in
     let l = c .before .before .before .before .before .before .before .before .loop in
     let h = c .before .before .before .before .before .before .loop2 in
     let g = c .before .before .before .before .loop3 in
     let now : Tick = record { 0 = l .t } in
-    (search needs, turn-else (λ (i : ℕ) (x : World). arrives now i x) (λ (i : ℕ) (x : World). hand s now i (receiver (s .plan) i) x) (g .c) (worldOf (h .stations) (postOf (l .arrivals) (l .copies)) (l .refusals)) (worldOf (g .stations) (postOf (g .arrivals) (g .copies)) (l .refusals)) (g .inv .1) (sym (c .before .is-now .ensures) ∙ c .if2 .left))
+    let w : World = worldOf (g .stations) (postOf (g .arrivals) (g .copies)) (l .refusals) in
+    let first : World = worldOf (h .stations) (postOf (l .arrivals) (l .copies)) (l .refusals) in (
+      search needs,
+      ⊎-elim
+          (λ x. of-parts _ _ _ _ _ _ _ _ (x .7) (x .8) (x .9) refl
+          ∙ turn-if (λ (i : ℕ) (v : World). arrives now i v) (λ (i : ℕ) (v : World). hand s now i (receiver (s .plan) i) v) (g .c) first w _ (g .inv .1) (sym (c .before .is-now .ensures) ∙ x .0 .taken)
+          (handed-over s now w (x .3 .result) (x .5 .result) (g .c) (x .1 .result) (x .1 .ensures .0) (x .3 .ensures) (x .5 .ensures)))
+          (λ x. of-parts _ _ _ _ _ _ _ _ (x .1) (x .2) (x .3) refl
+          ∙ turn-else (λ (i : ℕ) (v : World). arrives now i v) (λ (i : ℕ) (v : World). hand s now i (receiver (s .plan) i) v) (g .c) first w (g .inv .1) (sym (c .before .is-now .ensures) ∙ x .0 .left))
+          (c .if2 .came),
+    )
 
 loop4-holds : tie.Need-loop4-holds Inv-loop2 μ-loop2 Inv-loop3 μ-loop3 Inv-loop4 μ-loop4 Inv-loop μ-loop
 loop4-holds c = let l = c .before .before .before .before .before .loop in
@@ -226,9 +219,6 @@ mul-start c = search needs
 
 element-copy-out-start : tie.Need-element-copy-out-start Inv-loop2 μ-loop2 Inv-loop3 μ-loop3 Inv-loop4 μ-loop4 Inv-loop μ-loop
 element-copy-out-start c = let few = c .before .before .before .before .before .before .before .before .before .pre .few in omega arith
-
-add-k : tie.Need-add-k Inv-loop2 μ-loop2 Inv-loop3 μ-loop3 Inv-loop4 μ-loop4 Inv-loop μ-loop
-add-k c = let few = c .before .before .before .before .before .before .before .before .before .before .pre .few in search needs
 
 is-now-requires-2 : tie.Need-is-now-requires-2 Inv-loop2 μ-loop2 Inv-loop3 μ-loop3 Inv-loop4 μ-loop4 Inv-loop μ-loop
 is-now-requires-2 c κs = search needs
@@ -270,29 +260,29 @@ send-all-requires-2 c κs = let a = c .before .before .before .before .before .b
     let all = starting-few (a .t1) z (record { 0 = l .t }) (k .k) (worldOf (g .stations) (postOf (g .arrivals) (g .copies)) (l .refusals)) (worldOf (k .stations) (postOf (k .arrivals) (k .copies)) (k .refusals)) (omega arith) count (k .inv .1) in
     (z .m-most, omega arith, omega arith, omega arith)
 
+add-k : tie.Need-add-k Inv-loop2 μ-loop2 Inv-loop3 μ-loop3 Inv-loop4 μ-loop4 Inv-loop μ-loop
+add-k c = let few = c .before .before .before .before .before .before .before .before .before .before .before .before .pre .few in search needs
+
 loop4-less : tie.Need-loop4-less Inv-loop2 μ-loop2 Inv-loop3 μ-loop3 Inv-loop4 μ-loop4 Inv-loop μ-loop
 loop4-less c = search needs
 
 loop4-again : tie.Need-loop4-again Inv-loop2 μ-loop2 Inv-loop3 μ-loop3 Inv-loop4 μ-loop4 Inv-loop μ-loop
-loop4-again c = let s = c .before .before .before .before .before .before .before .before .before .before .before .before .before .before .before .before .before .before .before .args .t1 in
-    let l = c .before .before .before .before .before .before .before .before .before .before .before .before .before .before .before .before .before .loop in
-    let g = c .before .before .before .before .before .before .before .before .before .before .before .before .before .loop3 in
-    let k = c .before .before .before .before .before .before .before .before .before .before .before .loop4 in
-    let now : Tick = record { 0 = l .t } in
-    let w : World = worldOf (k .stations) (postOf (k .arrivals) (k .copies)) (k .refusals) in
-    let new = told-to s now w (c .before .before .before .before .tell .result) (c .before .send-all2 .result) (k .k) (start s (k .k) .host) (start s (k .k) .order) (c .before .before .before .before .tell .ensures) (c .before .send-all2 .ensures) in
-    (search needs, turn-if (λ (i : ℕ) (x : World). eqb (start s i .tick .0) (l .t)) (λ (i : ℕ) (x : World). tell s now i (start s i .host) (start s i .order) x) (k .k) (worldOf (g .stations) (postOf (g .arrivals) (g .copies)) (l .refusals)) w _ (k .inv .1) (sym (c .before .before .before .before .before .before .before .before .is-now2 .ensures) ∙ c .before .before .before .before .before .before .before .if3 .taken) new)
-
-loop4-less-2 : tie.Need-loop4-less-2 Inv-loop2 μ-loop2 Inv-loop3 μ-loop3 Inv-loop4 μ-loop4 Inv-loop μ-loop
-loop4-less-2 c = search needs
-
-loop4-again-2 : tie.Need-loop4-again-2 Inv-loop2 μ-loop2 Inv-loop3 μ-loop3 Inv-loop4 μ-loop4 Inv-loop μ-loop
-loop4-again-2 c = let s = c .before .before .before .before .before .before .before .before .before .before .before .before .args .t1 in
+loop4-again c = let s = c .before .before .before .before .before .before .before .before .before .before .before .before .args .t1 in
     let l = c .before .before .before .before .before .before .before .before .before .before .loop in
     let g = c .before .before .before .before .before .before .loop3 in
     let k = c .before .before .before .before .loop4 in
     let now : Tick = record { 0 = l .t } in
-    (search needs, turn-else (λ (i : ℕ) (x : World). eqb (start s i .tick .0) (l .t)) (λ (i : ℕ) (x : World). tell s now i (start s i .host) (start s i .order) x) (k .k) (worldOf (g .stations) (postOf (g .arrivals) (g .copies)) (l .refusals)) (worldOf (k .stations) (postOf (k .arrivals) (k .copies)) (k .refusals)) (k .inv .1) (sym (c .before .is-now2 .ensures) ∙ c .if3 .left))
+    let w : World = worldOf (k .stations) (postOf (k .arrivals) (k .copies)) (k .refusals) in
+    let first : World = worldOf (g .stations) (postOf (g .arrivals) (g .copies)) (l .refusals) in (
+      search needs,
+      ⊎-elim
+          (λ x. of-parts _ _ _ _ _ _ _ _ (x .8) (x .9) (x .10) (x .11)
+          ∙ turn-if (λ (i : ℕ) (v : World). eqb (start s i .tick .0) (l .t)) (λ (i : ℕ) (v : World). tell s now i (start s i .host) (start s i .order) v) (k .k) first w _ (k .inv .1) (sym (c .before .is-now2 .ensures) ∙ x .0 .taken)
+          (told-to s now w (x .3 .result) (x .6 .result) (k .k) (start s (k .k) .host) (start s (k .k) .order) (x .3 .ensures) (x .6 .ensures)))
+          (λ x. of-parts _ _ _ _ _ _ _ _ (x .1) (x .2) (x .3) (x .4)
+          ∙ turn-else (λ (i : ℕ) (v : World). eqb (start s i .tick .0) (l .t)) (λ (i : ℕ) (v : World). tell s now i (start s i .host) (start s i .order) v) (k .k) first w (k .inv .1) (sym (c .before .is-now2 .ensures) ∙ x .0 .left))
+          (c .if3 .came),
+    )
 
 add-t : tie.Need-add-t Inv-loop2 μ-loop2 Inv-loop3 μ-loop3 Inv-loop4 μ-loop4 Inv-loop μ-loop
 add-t c = let end = c .before .before .before .before .before .before .before .before .before .pre .end in search needs
@@ -338,7 +328,6 @@ play-all-spec =
     loop2-holds
     cast-at
     clock-of-requires
-    add-p
     mul-is-idle
     array-copy-out-is-idle
     is-idle-requires
@@ -347,18 +336,16 @@ play-all-spec =
     at-later-requires
     mul-stations
     array-set-from-stations
-    loop2-less
-    loop2-again
     mul-tick-one
     array-copy-out-tick-one
     tick-one-requires
     mul-stations-2
     array-set-from-stations-2
-    loop2-less-2
-    loop2-again-2
+    add-p
+    loop2-less
+    loop2-again
+    mul-c-end
     loop3-holds
-    mul-loop3
-    add-c
     mul-is-now
     array-copy-out-is-now
     is-now-requires
@@ -371,14 +358,12 @@ play-all-spec =
     mul-stations-3
     array-set-from-stations-3
     send-all-requires
+    add-c
     loop3-less
     loop3-again
-    loop3-less-2
-    loop3-again-2
     loop4-holds
     mul-start
     element-copy-out-start
-    add-k
     is-now-requires-2
     cast-tell
     mul-tell
@@ -389,10 +374,9 @@ play-all-spec =
     array-set-from-stations-4
     array-write-refusals
     send-all-requires-2
+    add-k
     loop4-less
     loop4-again
-    loop4-less-2
-    loop4-again-2
     add-t
     loop-less
     loop-again
