@@ -11,13 +11,16 @@ use Rattle.schedule.specs.declared.Schedule.{Schedule}
 use Rattle.engine.specs.declared.Station.{Station}
 use Rattle.engine.specs.Parts.{noTick}
 use Rattle.engine.specs.Run.{opening}
-use Rattle.engine.specs.Inside.{Playable, freshStation}
+use Rattle.engine.specs.Inside.{Playable, worldOf, postOf, freshStation}
 
-pub opened : (s : Schedule) → Playable s → (h : Host) (l : List Station) → h ≡ makeHost (s .plan) 1 0 → l ≡ listed 8 (freshStation h)
-    → record { stations = l; post = record { arrivals = replicate 384 noTick; copies = 0 }; refusals = replicate 16 0 } ≡ opening s
+pub opened : (s : Schedule) → Playable s → (h : Host) (l : List Station) → h ≡ makeHost (s .plan) 1 0 → l ≡ listed 8 (freshStation h) → l ≡ opening s .stations
 unfolding opening
 opened s z h l e k =
     let made : makeRefusal (s .plan) 1 0 ≡ 0 = make-runs (s .plan) 1 0 (record { planned = z .planned; is-rules = refl; own-below = z .n-some }) in
     let first : h ≡ fresh (s .plan) 1 0 = e ∙ accepted (makeRefusal (s .plan) 1 0) (fresh (s .plan) 1 0) _ made in
-    let all : l ≡ listed 8 (freshStation (fresh (s .plan) 1 0)) = k ∙ ap (λ (g : Host). listed 8 (freshStation g)) first in
-    cc all
+    k ∙ ap (λ (g : Host). listed 8 (freshStation g)) first
+
+-- with them nothing is under way, nothing sent and nothing refused
+pub opens : (s : Schedule) (l : List Station) → l ≡ opening s .stations → worldOf l (postOf (replicate 384 noTick) 0) (replicate 16 0) ≡ opening s
+unfolding opening
+opens s l e = ap (λ (k : List Station). worldOf k (postOf (replicate 384 noTick) 0) (replicate 16 0)) e

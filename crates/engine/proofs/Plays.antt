@@ -1,11 +1,7 @@
 -- One tick of a run, and what a run leaves. Assumes nothing.
 use mathlib.Core.Path.{_≡_, ap, _∙_}
-use mathlib.Core.Bool.{false}
 use mathlib.Core.List.{List}
 use Prim.Native.Nat.{ℕ, _+_, _*_}
-use lib.Dec.{eqb}
-use Rattle.lists.specs.Searches.{some}
-use Rattle.lists.proofs.SearchLaws.{some-false}
 use Rattle.clock.specs.declared.Tick.{Tick}
 use Rattle.network.specs.Network.{n}
 use Rattle.schedule.specs.declared.Schedule.{Schedule}
@@ -13,10 +9,9 @@ use Rattle.engine.specs.declared.Outcome.{Outcome}
 use Rattle.engine.specs.declared.Station.{Station}
 use Rattle.engine.specs.declared.World.{World}
 use Rattle.engine.specs.Turns.{inTurn}
-use Rattle.engine.specs.Parts.{start, receiver}
-use Rattle.engine.specs.Run.{tickOne, tickAll, hand, arrives, arriveOne, tell, startOne, play, opening, world, outcome, outcomeAt}
+use Rattle.engine.specs.Run.{tickOne, tickAll, arriveOne, startOne, play, opening, world, outcome, outcomeAt}
 use Rattle.engine.specs.Inside.{worldOf}
-use Rattle.engine.proofs.Turns.{turn, quiet}
+use Rattle.engine.proofs.Turns.{turn}
 
 module _ (s : Schedule) (t : ℕ) (w : World) (now : w ≡ world s t) (l : List Station) (ticks : l ≡ inTurn (n (s .plan)) (tickOne s (record { 0 = t })) (w .stations)) where
   abbrev i : Tick
@@ -31,17 +26,6 @@ module _ (s : Schedule) (t : ℕ) (w : World) (now : w ≡ world s t) (l : List 
   played r e =
       let all : v ≡ tickAll s i w = cc ticks in
       turn (play s) t (opening s) w r now (e ∙ ap (λ (x : World). inTurn (s .«start_count») (startOne s i) (inTurn (24 * s .«start_count») (arriveOne s i) x)) all)
-
-  -- a tick at which nothing arrives or is started
-  pub played-quiet : some (24 * s .«start_count») (λ c. arrives i c w) ≡ false → some (s .«start_count») (λ k. eqb (start s k .tick .0) t) ≡ false → v ≡ world s (t + 1)
-  played-quiet none no-start =
-      let copies : v ≡ inTurn (24 * s .«start_count») (arriveOne s i) v =
-      quiet (λ (c : ℕ) (x : World). arrives i c x) (λ (c : ℕ) (x : World). hand s i c (receiver (s .plan) c) x) (24 * s .«start_count») v
-      (λ c h. some-false (λ k. arrives i k w) (24 * s .«start_count») none c h) in
-      let starts : v ≡ inTurn (s .«start_count») (startOne s i) v =
-      quiet (λ (k : ℕ) (x : World). eqb (start s k .tick .0) t) (λ (k : ℕ) (x : World). tell s i k (start s k .host) (start s k .order) x) (s .«start_count») v
-      (λ k h. some-false (λ j. eqb (start s j .tick .0) t) (s .«start_count») no-start k h) in
-      played v (starts ∙ ap (inTurn (s .«start_count») (startOne s i)) copies)
 
 pub left : (s : Schedule) (w : World) (o : Outcome) → w ≡ world s (s .end .0 + 1) → o ≡ outcomeAt s w → o ≡ outcome s
 unfolding outcome

@@ -1,5 +1,5 @@
 -- One thing after another: one turn of a loop, what every turn keeps, and how far it grows. Assumes nothing.
-use mathlib.Core.Path.{_≡_, refl, sym, ap, _∙_}
+use mathlib.Core.Path.{_≡_, refl, ap, _∙_}
 use mathlib.Core.Bool.{Bool, true, false, cond}
 use mathlib.Core.List.{List, _++_, append-nil}
 use Prim.Native.Nat.{ℕ, zero, suc, _+_, _-_, _*_, _≤_, _<_}
@@ -45,13 +45,6 @@ module _ {A : Type 0} (test : ℕ → A → Bool) (g : ℕ → A → A) where
   pub turn-else : (n : ℕ) (a b : A) → b ≡ inTurn n (λ i x. cond (test i x) (g i x) x) a → test n b ≡ false
       → b ≡ inTurn (n + 1) (λ i x. cond (test i x) (g i x) x) a
   turn-else n a b e t = let one : b ≡ cond (test n b) (g n b) b = simp t in turn (λ i x. cond (test i x) (g i x) x) n a b b e one
-
-  -- where no test passes, nothing is done
-  pub quiet : (n : ℕ) (a : A) → ((i : ℕ) → i < n → test i a ≡ false) → a ≡ inTurn n (λ i x. cond (test i x) (g i x) x) a
-  quiet n a f = keeps (λ i x. cond (test i x) (g i x) x) (λ i x. a ≡ x) n a refl (λ i b h e. let last : test i a ≡ false = f i h in e ∙ same i b (ap (test i) (sym e) ∙ last))
-    where
-      same : (i : ℕ) (b : A) → test i b ≡ false → b ≡ cond (test i b) (g i b) b
-      same i b t = simp t
 
 pub full : {A : Type 0} (N : ℕ) (z : A) (l : List A) → length l ≡ N → pad N z l ≡ l
 full {A} N z l e = let none : N - length l ≡ 0 = omega arith in ap (λ (k : ℕ). l ++ replicate k z) none ∙ append-nil l

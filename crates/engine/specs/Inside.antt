@@ -5,10 +5,13 @@ use Prim.Native.Nat.{ℕ, _+_, _≤_, _<_}
 use lib.ListN.{length, getD}
 use Rattle.network.specs.Network.{n, m, link, planRefusal}
 use Rattle.clock.specs.declared.Reading.{Reading}
+use Rattle.clock.specs.declared.Tick.{Tick}
+use Rattle.host.specs.Answers.{Said}
 use Rattle.host.specs.State.{with, Sized}
 use Rattle.host.specs.Tick.{dueOf, tickRefusal}
 use Rattle.host.specs.declared.Host.{Host}
 use Rattle.schedule.specs.declared.Schedule.{Schedule}
+use Rattle.engine.specs.declared.Acted.{Acted}
 use Rattle.engine.specs.declared.Outcome.{Outcome}
 use Rattle.engine.specs.declared.Post.{Post}
 use Rattle.engine.specs.declared.Station.{Station}
@@ -34,9 +37,17 @@ pub record Playable (s : Schedule) : Type 0 where
   pub ticks : (k : ℕ) → start s k .tick .0 ≤ 4096
   pub end : s .end .0 ≤ 4096
 
+-- what stands for the copies: the ticks at which they arrive, and how many were sent
+abbrev pub postOf : List Tick → ℕ → Post
+postOf arrivals copies = record { arrivals = arrivals; copies = copies }
+
 -- a run's parts as a world
 abbrev pub worldOf : List Station → Post → List ℕ → World
 worldOf stations post refusals = record { stations = stations; post = post; refusals = refusals }
+
+-- a station after a call of its host, and what the call said
+abbrev pub acted : Station → Host → Said → Acted
+acted a h said = record { station = record { host = h; log = a .log }; links = said .links; refusal = said .refusal }
 
 -- a station whose host is another's, under a number of its own
 abbrev pub freshStation : Host → ℕ → Station

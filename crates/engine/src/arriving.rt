@@ -1,73 +1,26 @@
 // Copies arrive, by start, link and direction.
-use crate::Post;
+use crate::Acted;
 use crate::Station;
-use crate::World;
 use crate::clocks::clock_of;
 use crate::clocks::order_of;
-use crate::sending::send_all;
 use clock::Tick;
 use host::SendAnswer;
+use host::number_of;
 use schedule::Schedule;
 ghost use mathlib.Core.Path.{_≡_};
 ghost use mathlib.Core.Bool.{_&&_};
-ghost use Prim.Native.Nat.{_*_, _≤_, _<_};
+ghost use Prim.Native.Nat.{_≤_, _<_};
 ghost use lib.Dec.{ltb, eqb};
-ghost use lib.ListN.{getD};
-ghost use Rattle.lists.specs.Searches.{some};
-ghost use Rattle.engine.specs.Turns.{inTurn};
-ghost use Rattle.engine.specs.Parts.{noTick, receiver};
-ghost use Rattle.engine.specs.Run.{hand, arriveOne};
-ghost use Rattle.engine.specs.Inside.{Playable};
 ghost use Rattle.host.specs.Answers.{says};
+ghost use Rattle.host.specs.Receive.{receiveSays, receiveHost};
+ghost use Rattle.engine.specs.Parts.{clock, order, startOf, linkOf, receiver};
+ghost use Rattle.engine.specs.Inside.{Playable, acted};
 
-pub(crate) fn arrive_all(s: Schedule, t: Tick, world: World) -> World
-    requires { ⌜ Playable s × (t .0 ≤ 65_535) × (world .post .copies ≤ 900_000_000) ⌝ }
-    ensures { λ r. ⌜ r ≡ inTurn (24 * s .«start_count») (arriveOne s t) world ⌝ }
+// The copy at place c is handed to host q.
+pub(crate) fn hand(s: Schedule, t: Tick, c: usize, q: u8, station: Station) -> Acted
+    requires { ⌜ Playable s × (t .0 ≤ 65_535) × (c < 384) × (q < 8) ⌝ }
+    ensures { λ r. ⌜ r ≡ acted station (receiveHost (station .host) (clock s t q) (linkOf c) 0 (order s (startOf c))) (receiveSays (station .host) (clock s t q .0) (linkOf c) 0 (order s (startOf c))) ⌝ }
 {
-    let mut w = world;
-    let mut post = w.post;
-    // An index through a struct copies the struct.
-    let mut arrivals = post.arrivals;
-    let mut c: usize = 0;
-    while c < 24 * s.start_count {
-        let at = c;
-        c += 1;
-        if is_now(arrivals[at], t) {
-            w = arrive(s, t, at, w);
-            post = w.post;
-            arrivals = post.arrivals;
-        }
-    }
-    w
-}
-
-// Whether some copy below n arrives at this tick.
-pub(crate) fn any_arrives(post: Post, t: Tick, n: usize) -> bool
-    requires { ⌜ n ≤ 384 ⌝ }
-    ensures { λ r. ⌜ r ≡ some n (λ c. ltb 0 (t .0) && eqb (getD (post .arrivals) c noTick .0) (t .0)) ⌝ }
-{
-    let arrivals = post.arrivals;
-    let mut found = false;
-    let mut c: usize = 0;
-    while c < n {
-        found = is_now(arrivals[c], t) | found;
-        c += 1;
-    }
-    found
-}
-
-// The copy at place c is handed to its receiver.
-fn arrive(s: Schedule, t: Tick, c: usize, w: World) -> World
-    requires { ⌜ Playable s × (t .0 ≤ 65_535) × (c < 384) × (w .post .copies ≤ 1_000_000_000) ⌝ }
-    ensures { λ r. ⌜ r ≡ hand s t c (receiver (s .plan) c) w ⌝ }
-{
-    let k = c / 24;
-    let q = receiver_of(s, c);
-    let at = q as usize;
-    let mut stations = w.stations;
-    let refusals = w.refusals;
-    let sent = w.post;
-    let station = stations[at];
     let before = station.host;
     let log = station.log;
     let acted = host::after_receive(
@@ -75,26 +28,31 @@ fn arrive(s: Schedule, t: Tick, c: usize, w: World) -> World
         clock_of(s, t, q),
         (c % 24 / 2) as u8,
         0,
-        order_of(s, k),
+        order_of(s, c / 24),
     );
     let host = acted.host;
     let answer = acted.answer;
-    stations[at] = Station { host, log };
-    let post = send_all(s, t, k, q, links_of(answer), sent);
-    World {
-        stations,
-        post,
-        refusals,
+    Acted {
+        station: Station { host, log },
+        links: links_of(answer),
+        refusal: refusal_of(answer),
     }
 }
 
-fn receiver_of(s: Schedule, c: usize) -> u8
+pub(crate) fn receiver_of(s: Schedule, c: usize) -> u8
     requires { ⌜ Playable s × (c < 384) ⌝ }
     ensures { λ r. ⌜ (r ≡ receiver (s .plan) c) × (r < 8) ⌝ }
 {
     let plan = s.plan;
     let link = plan.links[c % 24 / 2];
     if c % 2 == 0 { link.b } else { link.a }
+}
+
+// Whether an arrival is at this tick, which is not 0.
+pub(crate) fn is_now(arrival: Tick, t: Tick) -> bool
+    ensures { λ r. ⌜ r ≡ (ltb 0 (t .0) && eqb (arrival .0) (t .0)) ⌝ }
+{
+    (0 < t.0) & (arrival.0 == t.0)
 }
 
 // The links that an answer names: none, where it is a refusal.
@@ -107,9 +65,12 @@ pub(crate) fn links_of(answer: SendAnswer) -> u16
     }
 }
 
-// Whether an arrival is at this tick, which is not 0.
-fn is_now(arrival: Tick, t: Tick) -> bool
-    ensures { λ r. ⌜ r ≡ (ltb 0 (t .0) && eqb (arrival .0) (t .0)) ⌝ }
+// The number of a refusal, and 0 for none.
+pub(crate) fn refusal_of(answer: SendAnswer) -> u8
+    ensures { λ r. ⌜ r ≡ says answer .refusal ⌝ }
 {
-    (0 < t.0) & (arrival.0 == t.0)
+    match answer {
+        SendAnswer::Sent { links: _, hop: _ } => 0,
+        SendAnswer::Refused(refusal) => number_of(refusal),
+    }
 }

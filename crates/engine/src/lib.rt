@@ -41,7 +41,14 @@ pub struct Post {
     pub copies: usize,
 }
 
-// All that changes in a run.
+// A station after a call of its host, the links to send on, and the number of a refusal, or 0.
+pub struct Acted {
+    pub station: Station,
+    pub links: u16,
+    pub refusal: u8,
+}
+
+// All that changes in a run. The definitions speak of it; the run keeps its parts.
 pub struct World {
     pub stations: [Station; 8],
     pub post: Post,

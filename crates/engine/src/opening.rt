@@ -2,11 +2,8 @@
 use crate::Delivery;
 use crate::Log;
 use crate::Outcome;
-use crate::Post;
 use crate::Station;
-use crate::World;
 use clock::Reading;
-use clock::Tick;
 use host::Held;
 use host::Host;
 use orders::Order;
@@ -19,23 +16,15 @@ ghost use Rattle.engine.specs.Run.{opening};
 ghost use Rattle.engine.specs.Calls.{noOutcome};
 ghost use Rattle.engine.specs.Inside.{Playable, freshStation};
 
-// Fresh hosts, and nothing under way.
-pub(crate) fn open(s: Schedule) -> World
+// Fresh hosts, that have delivered nothing.
+pub(crate) fn open(s: Schedule) -> [Station; 8]
     requires { ⌜ Playable s ⌝ }
-    ensures { λ r. ⌜ r ≡ opening s ⌝ }
+    ensures { λ r. ⌜ r ≡ opening s .stations ⌝ }
 {
     let plan = s.plan;
     let made = host::make(plan, 1, 0);
     let first = made.host;
-    let stations = fresh_stations(first);
-    World {
-        stations,
-        post: Post {
-            arrivals: [Tick(0); 384],
-            copies: 0,
-        },
-        refusals: [0; 16],
-    }
+    fresh_stations(first)
 }
 
 fn fresh_stations(first: Host) -> [Station; 8]

@@ -1,107 +1,85 @@
 // At each tick all hosts tick, then copies arrive, then orders are started.
 use crate::Log;
 use crate::Outcome;
-use crate::Post;
 use crate::Station;
-use crate::World;
-use crate::arriving::any_arrives;
-use crate::arriving::arrive_all;
+use crate::arriving::hand;
+use crate::arriving::is_now;
+use crate::arriving::receiver_of;
 use crate::clocks::clock_of;
 use crate::opening::no_log;
 use crate::opening::open;
-use crate::starting::any_starts;
-use crate::starting::start_all;
+use crate::sending::send_all;
+use crate::starting::is_now as starts_now;
+use crate::starting::tell;
 use crate::ticking::at_later;
 use crate::ticking::is_idle;
 use crate::ticking::tick_one;
 use clock::Tick;
 use schedule::Schedule;
 ghost use mathlib.Core.Path.{_≡_};
-ghost use Prim.Native.Nat.{_+_, _*_, _≤_};
+ghost use mathlib.Core.List.{[]};
 ghost use lib.ListN.{getD};
 ghost use Rattle.lists.specs.Lists.{listed};
-ghost use Rattle.engine.specs.Turns.{inTurn};
 ghost use Rattle.engine.specs.Parts.{noStation};
-ghost use Rattle.engine.specs.Run.{arriveOne, startOne, world, outcome, outcomeAt};
-ghost use Rattle.engine.specs.Inside.{Playable, worldOf};
+ghost use Rattle.engine.specs.Run.{outcome, outcomeAt};
+ghost use Rattle.engine.specs.Inside.{Playable, worldOf, postOf};
 
-// The run of a schedule, to its end.
+// The run of a schedule, to its end. A call copies what it takes by value: so the world is kept here, and a call takes one station of it.
 pub(crate) fn play_all(s: Schedule) -> Outcome
     requires { ⌜ Playable s ⌝ }
     ensures { λ r. ⌜ r ≡ outcome s ⌝ }
 {
-    let w = world_at_end(s);
-    outcome_of(s, w)
-}
-
-// The world after the last tick. A call copies what it takes by value: so the hosts tick here, in place, and a world is made only where a copy
-// arrives or an order is started.
-fn world_at_end(s: Schedule) -> World
-    requires { ⌜ Playable s ⌝ }
-    ensures { λ r. ⌜ r ≡ world s (s .end .0 + 1) ⌝ }
-{
-    let opened = open(s);
-    let mut stations = opened.stations;
-    let mut post = opened.post;
-    let mut refusals = opened.refusals;
+    let mut stations = open(s);
+    let mut arrivals = [Tick(0); 384];
+    let mut copies: usize = 0;
+    let mut refusals = [0u8; 16];
     let mut t: u64 = 0;
     while t <= s.end.0 {
         let now = Tick(t);
-        let mut p: u8 = 0;
-        while p < s.plan.hosts {
+        for p in 0..s.plan.hosts {
             let at = p as usize;
             let u = clock_of(s, now, p);
-            p += 1;
             if is_idle(stations[at], u) {
                 stations[at] = at_later(stations[at], u);
             } else {
                 stations[at] = tick_one(stations[at], u);
             }
         }
-        t += 1;
-        if any_arrives(post, now, 24 * s.start_count) | any_starts(s, now) {
-            let w = arrive_and_start(s, now, stations, post, refusals);
-            stations = w.stations;
-            post = w.post;
-            refusals = w.refusals;
+        for c in 0..24 * s.start_count {
+            if is_now(arrivals[c], now) {
+                let q = receiver_of(s, c);
+                let acted = hand(s, now, c, q, stations[q as usize]);
+                let station = acted.station;
+                stations[q as usize] = station;
+                let post = send_all(s, now, c / 24, q, acted.links, arrivals, copies);
+                arrivals = post.arrivals;
+                copies = post.copies;
+            }
         }
+        for k in 0..s.start_count {
+            let start = s.starts[k];
+            if starts_now(start, now) {
+                let acted = tell(s, now, start, stations[start.host as usize]);
+                let station = acted.station;
+                stations[start.host as usize] = station;
+                refusals[k] = acted.refusal;
+                let post = send_all(s, now, k, start.host, acted.links, arrivals, copies);
+                arrivals = post.arrivals;
+                copies = post.copies;
+            }
+        }
+        t += 1;
     }
-    World {
-        stations,
-        post,
-        refusals,
-    }
+    outcome_of(s, stations, refusals, copies)
 }
 
-// Copies arrive, then orders are started.
-fn arrive_and_start(
-    s: Schedule,
-    t: Tick,
-    stations: [Station; 8],
-    post: Post,
-    refusals: [u8; 16],
-) -> World
-    requires { ⌜ Playable s × (t .0 ≤ 65_535) × (post .copies ≤ 900_000_000) ⌝ }
-    ensures { λ r. ⌜ r ≡ inTurn (s .«start_count») (startOne s t) (inTurn (24 * s .«start_count») (arriveOne s t) (worldOf stations post refusals)) ⌝ }
-{
-    let ticked = World {
-        stations,
-        post,
-        refusals,
-    };
-    let arrived = arrive_all(s, t, ticked);
-    start_all(s, t, arrived)
-}
-
-fn outcome_of(s: Schedule, w: World) -> Outcome
-    ensures { λ r. ⌜ r ≡ outcomeAt s w ⌝ }
+// What a run leaves.
+fn outcome_of(s: Schedule, stations: [Station; 8], refusals: [u8; 16], copies: usize) -> Outcome
+    ensures { λ r. ⌜ r ≡ outcomeAt s (worldOf stations (postOf [] copies) refusals) ⌝ }
 {
     let bounds = s.bounds;
     let first = bounds.first;
     let plan = s.plan;
-    let stations = w.stations;
-    let refusals = w.refusals;
-    let post = w.post;
     let logs = logs_of(stations);
     Outcome {
         bound: first.bound,
@@ -109,7 +87,7 @@ fn outcome_of(s: Schedule, w: World) -> Outcome
         starts: s.start_count,
         refusals,
         logs,
-        copies: post.copies,
+        copies,
     }
 }
 

@@ -11,24 +11,40 @@ ghost use Prim.Native.Nat.{_+_, _≤_, _<_};
 ghost use lib.Dec.{eqb};
 ghost use Rattle.network.specs.Network.{m};
 ghost use Rattle.engine.specs.Parts.{later, copyFrom};
-ghost use Rattle.engine.specs.Run.{sent, send};
+ghost use Rattle.engine.specs.Run.{send};
+ghost use Rattle.engine.specs.Inside.{postOf};
 
 // The copies of start k that host p sends on a set of links at a tick.
-pub(crate) fn send_all(s: Schedule, t: Tick, k: usize, p: u8, links: u16, post: Post) -> Post
-    requires { ⌜ (m (s .plan) ≤ 12) × (t .0 ≤ 65_535) × (k < 16) × (post .copies ≤ 1_000_000_000) ⌝ }
-    ensures { λ r. ⌜ r ≡ send s t k p links post ⌝ }
+pub(crate) fn send_all(
+    s: Schedule,
+    t: Tick,
+    k: usize,
+    p: u8,
+    links: u16,
+    before: [Tick; 384],
+    sent: usize,
+) -> Post
+    requires { ⌜ (m (s .plan) ≤ 12) × (t .0 ≤ 65_535) × (k < 16) × (sent ≤ 1_000_000_000) ⌝ }
+    ensures { λ r. ⌜ r ≡ send s t k p links (postOf before sent) ⌝ }
 {
     let plan = s.plan;
-    let mut all = post;
+    let delays = s.delays;
+    let mut arrivals = before;
+    let mut copies = sent;
     let mut l: u8 = 0;
-    while l < plan.link_count {
+    while l < s.plan.link_count {
         let at = l;
         l += 1;
         if is_in(links as u32, at) {
-            all = send_one(s, t, place(plan, k, p, at), all);
+            let c = place(plan, k, p, at);
+            let delay = delays[c];
+            copies += 1;
+            if delay != 0 {
+                arrivals[c] = later(t, delay);
+            }
         }
     }
-    all
+    Post { arrivals, copies }
 }
 
 fn place(plan: Plan, k: usize, p: u8, l: u8) -> usize
@@ -45,25 +61,6 @@ fn direction(ends: Link, p: u8) -> usize
     ensures { λ r. ⌜ (r ≡ cond (eqb (ends .a) p) 0 1) × (r ≤ 1) ⌝ }
 {
     if ends.a == p { 0 } else { 1 }
-}
-
-fn send_one(s: Schedule, t: Tick, c: usize, post: Post) -> Post
-    requires { ⌜ (t .0 ≤ 65_535) × (c < 384) × (post .copies ≤ 2_000_000_000) ⌝ }
-    ensures { λ r. ⌜ r ≡ sent s t c post ⌝ }
-{
-    let delay = s.delays[c];
-    let mut arrivals = post.arrivals;
-    if delay == 0 {
-        return Post {
-            arrivals,
-            copies: post.copies + 1,
-        };
-    }
-    arrivals[c] = later(t, delay);
-    Post {
-        arrivals,
-        copies: post.copies + 1,
-    }
 }
 
 fn later(t: Tick, delay: u8) -> Tick

@@ -3,8 +3,8 @@ use borrow.Author.Needs.{needs}
 use mathlib.Core.Path.{sym, ap, _∙_}
 use Rattle.host.specs.Answers.{says}
 use Rattle.host.specs.declared.SendAnswer.{SendAnswer}
-use Rattle.engine.proofs.starting.refusal_of.Statement.{statement}
-use Rattle.engine.proofs.starting.refusal_of.Tie as tie
+use Rattle.engine.proofs.arriving.refusal_of.Statement.{statement}
+use Rattle.engine.proofs.arriving.refusal_of.Tie as tie
 
 enum-told : tie.Need-enum-told
 enum-told c = search needs
