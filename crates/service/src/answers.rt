@@ -2,8 +2,8 @@
 use crate::HostMemory;
 use crate::changes::count_due;
 use crate::frames::frame_from;
-use crate::frames::is_sound;
 use crate::orders_in::order_from;
+use crate::walks::is_sound;
 use crate::walks::look;
 use clock::Reading;
 use host::Held;
@@ -29,28 +29,31 @@ pub(crate) struct Answered {
 pub(crate) fn to_start(memory: HostMemory, u: u64, kind: u8, image: u32, share: u16) -> Answered
     ensures { λ r. ⌜ (r .accepted ≡ eqb (startRefusal (hostFrom memory) u (orderFrom kind image share)) 0) × (r .number ≡ sendNumber (startSays (hostFrom memory) u (orderFrom kind image share))) ⌝ }
 {
-    if !is_sound(memory) {
+    let frame = frame_from(memory);
+    let history = memory.history;
+    if !is_sound(frame, history) {
         return Answered {
             accepted: false,
             number: 9,
         };
     }
     let order = order_from(kind, image, share);
-    sent(host::start_answer(frame_from(memory), Reading(u), order))
+    sent(host::start_answer(frame, Reading(u), order))
 }
 
 pub(crate) fn to_copy(memory: HostMemory, u: u64, link: u8, hop: u8, copy: Held) -> Answered
     ensures { λ r. ⌜ (r .accepted ≡ eqb (receiveRefusal (hostFrom memory) u link hop copy) 0) × (r .number ≡ sendNumber (receiveSays (hostFrom memory) u link hop copy)) ⌝ }
 {
-    if !is_sound(memory) {
+    let frame = frame_from(memory);
+    let history = memory.history;
+    if !is_sound(frame, history) {
         return Answered {
             accepted: false,
             number: 9,
         };
     }
-    let history = memory.history;
     let seen = look(history, memory.held, copy);
-    sent(host::receive_answer(frame_from(memory), Reading(u), link, hop, copy, seen))
+    sent(host::receive_answer(frame, Reading(u), link, hop, copy, seen))
 }
 
 fn sent(answer: SendAnswer) -> Answered
@@ -71,15 +74,16 @@ fn sent(answer: SendAnswer) -> Answered
 pub(crate) fn to_tick(memory: HostMemory, u: u64, room: usize) -> Answered
     ensures { λ r. ⌜ (r .accepted ≡ eqb (tickRefusal (hostFrom memory) u room) 0) × (r .number ≡ tickNumber (tickSays (hostFrom memory) u room)) ⌝ }
 {
-    if !is_sound(memory) {
+    let frame = frame_from(memory);
+    let history = memory.history;
+    if !is_sound(frame, history) {
         return Answered {
             accepted: false,
             number: 9,
         };
     }
-    let history = memory.history;
     let count = count_due(history, memory.held, memory.bound, Reading(u));
-    ticked(host::tick_answer(frame_from(memory), Reading(u), room, count))
+    ticked(host::tick_answer(frame, Reading(u), room, count))
 }
 
 fn ticked(answer: TickAnswer) -> Answered
