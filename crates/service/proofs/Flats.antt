@@ -1,24 +1,21 @@
 -- What the host's definitions say of a flat history, said of its places; and the memory of the state that a call leaves. Assumes nothing.
 use mathlib.Core.Path.{_≡_, sym, ap, ap₂, _∙_, subst}
 use mathlib.Core.Bool.{Bool, true, not}
-use mathlib.Core.List.{List, [], _∷_, map}
+use mathlib.Core.List.{List, map}
 use Prim.Native.Nat.{ℕ, _+_, _-_, _≤_}
 use native.Mathlib.Omega.{arith}
-use lib.Dec.{leb}
 use lib.ListN.{length, length-map, take, drop}
 use lib.Seq.{length-take-le}
 use Rattle.lists.specs.Lists.{all, any, rising, keep, insert, pad}
-use Rattle.lists.specs.Tests.{allOf}
 use Rattle.lists.proofs.Bools.{or-true-left}
 use Rattle.lists.proofs.Loops.{keep-both}
 use Rattle.lists.proofs.Places.{length-insert}
 use Rattle.clock.specs.declared.Reading.{Reading}
 use Rattle.orders.specs.declared.Order.{Order}
 use Rattle.orders.specs.Orders.{shareFits}
-use Rattle.network.specs.Network.{n}
 use Rattle.host.specs.declared.Held.{Held}
 use Rattle.host.specs.declared.Host.{Host}
-use Rattle.host.specs.State.{noHeld, noReading, isNoHeld, heldOf, startsOf, lastStart, fits, before, ownStarted, sameName, historyTests, sound, with, Sized}
+use Rattle.host.specs.State.{noHeld, noReading, isNoHeld, heldOf, startsOf, before, sameName, sound, with, Sized}
 use Rattle.host.specs.Start.{startRefusal, withStart, startOf, afterStart}
 use Rattle.host.specs.Receive.{sameHeld, otherHeld, receiveRefusal, afterReceive}
 use Rattle.host.specs.Tick.{due, dueOf, waitingOf, tickRefusal, afterTick}
@@ -29,7 +26,7 @@ use Rattle.host.proofs.Slides.{with-length}
 use Rattle.service.specs.declared.HeldMemory.{HeldMemory}
 use Rattle.service.specs.declared.HostMemory.{HostMemory}
 use Rattle.service.specs.Memory.{heldFrom, ownFrom, hostFrom, heldMemory, hostMemory}
-use Rattle.service.specs.Inside.{memoryWith, fitsIn, beforeIn, startedIn, unusedIn, namedIn, sameIn, otherIn, dueIn, waitsIn, none}
+use Rattle.service.specs.Inside.{memoryWith, beforeIn, unusedIn, namedIn, sameIn, otherIn, dueIn, waitsIn, none}
 use Rattle.service.proofs.Maps.{take-map, drop-map, all-of, any-of, rising-of, keep-of, insert-of, pad-of}
 use Rattle.service.proofs.Back.{all-hold, low, held-back, places-there, own-there}
 
@@ -43,19 +40,6 @@ module _ (f : HostMemory) where
 
   pub held-in : heldOf h ≡ map heldFrom l
   held-in = take-map heldFrom (f .held) (f .history)
-
-  pub history-in : allOf (historyTests h)
-      ≡ allOf (leb (f .held) 32 ∷ all (fitsIn (n (f .plan))) l ∷ rising beforeIn l ∷ all (startedIn (ownFrom (f .own)) (f .started) (lastStart h)) l ∷ all unusedIn (drop (f .held) (f .history)) ∷ [])
-  unfolding historyTests
-  history-in =
-      rw (
-        held-in,
-        drop-map heldFrom (f .held) (f .history),
-        all-of heldFrom (fits (n (f .plan))) l,
-        rising-of heldFrom before l,
-        all-of heldFrom (ownStarted (ownFrom (f .own)) (f .started) (lastStart h)) l,
-        all-of heldFrom isNoHeld (drop (f .held) (f .history)),
-      )
 
   -- ---- the order of those held, and the places behind them, in a sound state
 

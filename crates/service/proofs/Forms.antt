@@ -1,7 +1,7 @@
 -- Numbers that are an order's, and what the order of any three numbers tells of them. Assumes nothing.
 use mathlib.Core.Path.{_≡_, refl, sym, subst, _∙_}
 use mathlib.Core.Bool.{Bool, true, false, cond, _&&_, and-false, true≢false}
-use Prim.Native.Nat.{ℕ, _+_, _≤_, _<_}
+use Prim.Native.Nat.{ℕ, _+_, _*_, _≤_, _<_}
 use native.Mathlib.Omega.{arith}
 use borrow.Author.Tests.{leb-true, eqb-true, eq-eqb, ne-eqb}
 use lib.Dec.{leb, eqb}
@@ -56,14 +56,17 @@ module _ (kind image share : ℕ) where
       go true f = by-form kind share f (λ k s. sameOrder (orderOf k image s) (Publish 0 0) ≡ zeros k image s) published refl refl refl
       go false f = none (zeros kind image share)
 
--- ---- four numbers are zero where their sum is
+-- ---- a place's bytes but its stamp's are zero where their number is
 
-pub all-zero : (image source kind share : ℕ) → eqb (image + source + kind + share) 0 ≡ (eqb source 0 && zeros kind image share)
-all-zero image source kind share = go (eqb (image + source + kind + share) 0) refl
+pub all-zero : (image source kind share : ℕ) → eqb (image + 4294967296 * source + 1099511627776 * kind + 281474976710656 * share) 0 ≡ (eqb source 0 && zeros kind image share)
+all-zero image source kind share = go (eqb number 0) refl
   where
-    go : (b : Bool) → eqb (image + source + kind + share) 0 ≡ b → b ≡ (eqb source 0 && zeros kind image share)
+    number : ℕ
+    number = image + 4294967296 * source + 1099511627776 * kind + 281474976710656 * share
+
+    go : (b : Bool) → eqb number 0 ≡ b → b ≡ (eqb source 0 && zeros kind image share)
     go true e =
-        let none : image + source + kind + share ≡ 0 = eqb-true _ _ e in
+        let none : number ≡ 0 = eqb-true _ _ e in
         let i : image ≡ 0 = omega arith in
         let s : source ≡ 0 = omega arith in
         let k : kind ≡ 0 = omega arith in
@@ -76,5 +79,5 @@ all-zero image source kind share = go (eqb (image + source + kind + share) 0) re
         let h : share ≡ 0 = eqb-true _ _ (and-right (eqb kind 0 && eqb image 0) (eqb share 0) z) in
         let k : kind ≡ 0 = eqb-true _ _ (and-left (eqb kind 0) (eqb image 0) (and-left (eqb kind 0 && eqb image 0) (eqb share 0) z)) in
         let i : image ≡ 0 = eqb-true _ _ (and-right (eqb kind 0) (eqb image 0) (and-left (eqb kind 0 && eqb image 0) (eqb share 0) z)) in
-        let none : image + source + kind + share ≡ 0 = omega arith in
+        let none : number ≡ 0 = omega arith in
         true≢false (sym (eq-eqb _ _ none) ∙ e)))

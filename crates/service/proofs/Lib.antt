@@ -7,6 +7,8 @@ pub mod Back
 mod Ticks
 mod Prefixes
 mod Flats
+mod Gathers
+mod Sounds
 mod Sizes
 pub mod Through
 pub mod One

@@ -1,9 +1,11 @@
 -- Notions that only private contracts cite. Assumes nothing.
 use mathlib.Core.Bool.{Bool, not}
-use mathlib.Core.List.{List}
+use mathlib.Core.List.{List, map}
 use Prim.Native.Nat.{ℕ}
+use Rattle.host.specs.declared.Frame.{Frame}
 use Rattle.host.specs.declared.Held.{Held}
-use Rattle.host.specs.State.{fits, before, ownStarted, isNoHeld, sameName}
+use Rattle.host.specs.declared.Host.{Host}
+use Rattle.host.specs.State.{bare, with, fits, before, ownStarted, isNoHeld, sameName}
 use Rattle.host.specs.Receive.{sameHeld, otherHeld}
 use Rattle.host.specs.Tick.{due}
 use Rattle.service.specs.declared.HeldMemory.{HeldMemory}
@@ -30,6 +32,10 @@ memoryWith f last started starts held history =
 -- the memory with another last reading
 abbrev pub memoryAt : HostMemory → Reading → HostMemory
 memoryAt f u = memoryWith f u (f .started) (f .starts) (f .held) (f .history)
+
+-- the state of a frame, its history in these places
+abbrev pub stateIn : Frame → List HeldMemory → Host
+stateIn g l = with (bare g) (g .last) (g .starts) (g .started) (map heldFrom l) (g .held)
 
 -- ---- the host's tests of the order that stands in a place
 

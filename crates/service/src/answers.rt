@@ -2,9 +2,9 @@
 use crate::HostMemory;
 use crate::changes::count_due;
 use crate::frames::frame_from;
-use crate::frames::is_sound;
 use crate::orders_in::order_from;
 use crate::places::is_due;
+use crate::walks::is_sound;
 use crate::walks::look;
 use clock::Reading;
 use host::Held;
@@ -35,28 +35,31 @@ pub(crate) struct Answered {
 pub(crate) fn to_start(memory: HostMemory, u: u64, kind: u8, image: u32, share: u16) -> Answered
     ensures { λ r. ⌜ (r .accepted ≡ eqb (startRefusal (hostFrom memory) u (orderFrom kind image share)) 0) × (r .number ≡ sendNumber (startSays (hostFrom memory) u (orderFrom kind image share))) ⌝ }
 {
-    if !is_sound(memory) {
+    let frame = frame_from(memory);
+    let history = memory.history;
+    if !is_sound(frame, history) {
         return Answered {
             accepted: false,
             number: 9,
         };
     }
     let order = order_from(kind, image, share);
-    sent(host::start_answer(frame_from(memory), Reading(u), order))
+    sent(host::start_answer(frame, Reading(u), order))
 }
 
 pub(crate) fn to_copy(memory: HostMemory, u: u64, link: u8, hop: u8, copy: Held) -> Answered
     ensures { λ r. ⌜ (r .accepted ≡ eqb (receiveRefusal (hostFrom memory) u link hop copy) 0) × (r .number ≡ sendNumber (receiveSays (hostFrom memory) u link hop copy)) ⌝ }
 {
-    if !is_sound(memory) {
+    let frame = frame_from(memory);
+    let history = memory.history;
+    if !is_sound(frame, history) {
         return Answered {
             accepted: false,
             number: 9,
         };
     }
-    let history = memory.history;
     let seen = look(history, memory.held, copy);
-    sent(host::receive_answer(frame_from(memory), Reading(u), link, hop, copy, seen))
+    sent(host::receive_answer(frame, Reading(u), link, hop, copy, seen))
 }
 
 fn sent(answer: SendAnswer) -> Answered
@@ -85,7 +88,9 @@ pub(crate) fn to_tick(memory: HostMemory, u: u64, room: usize) -> Ticked
     ensures { λ r. ⌜ (r .count ≡ tickSays (hostFrom memory) u room .count) × (r .number ≡ tickNumber (tickSays (hostFrom memory) u room)) × (r .last ≡ callLeft memory (record { 0 = u }) (ticks room) .last) ⌝ }
 {
     let last = memory.last;
-    if !is_sound(memory) {
+    let frame = frame_from(memory);
+    let history = memory.history;
+    if !is_sound(frame, history) {
         return Ticked {
             last,
             count: 0,
@@ -93,7 +98,7 @@ pub(crate) fn to_tick(memory: HostMemory, u: u64, room: usize) -> Ticked
         };
     }
     let count = due_count(memory, Reading(u));
-    let answer = host::tick_answer(frame_from(memory), Reading(u), room, count);
+    let answer = host::tick_answer(frame, Reading(u), room, count);
     delivered(answer, last, Reading(u))
 }
 

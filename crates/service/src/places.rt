@@ -1,4 +1,4 @@
-// A place of a host's flat history: what the host's own tests say of the order that stands there. Every call makes most of them at each of the 32 places, so each stops as soon as it knows.
+// A place of a host's flat history: what the host's own tests say of the order that stands there. Every call makes most of them at each place that holds one, so each stops as soon as it knows.
 use crate::HeldMemory;
 use crate::orders_in::is_formed;
 use clock::Reading;
@@ -6,7 +6,10 @@ use clock::is_stamp;
 use clock::reached;
 use host::Held;
 ghost use mathlib.Core.Path.{_≡_};
-ghost use Rattle.service.specs.Inside.{beforeIn, fitsIn, startedIn, unusedIn, namedIn, dueIn};
+ghost use mathlib.Core.Bool.{_&&_};
+ghost use lib.Dec.{eqb};
+ghost use Rattle.service.specs.Memory.{zeros};
+ghost use Rattle.service.specs.Inside.{beforeIn, fitsIn, startedIn, namedIn, dueIn};
 
 // Whether its stamp, its source and its order are in range.
 pub(crate) fn is_fit(e: HeldMemory, hosts: u8) -> bool
@@ -41,14 +44,14 @@ pub(crate) fn is_started(e: HeldMemory, own: u8, started: usize, newest: Reading
     (0 < started) & (e.stamp.0 <= newest.0)
 }
 
-// Whether the place is all zero.
-pub(crate) fn is_unused(e: HeldMemory) -> bool
-    ensures { λ r. ⌜ r ≡ unusedIn e ⌝ }
+// Its bytes but the stamp's as one number, in their order in memory, so that to read it is to load them.
+pub(crate) fn word(e: HeldMemory) -> u64
+    ensures { λ r. ⌜ eqb r 0 ≡ (eqb (e .source) 0 && zeros (e .kind) (e .image) (e .share)) ⌝ }
 {
-    if e.stamp.0 != 0 {
-        return false;
-    }
-    (e.image as u64) + (e.source as u64) + (e.kind as u64) + (e.share as u64) == 0
+    (e.image as u64)
+        + 4_294_967_296 * (e.source as u64)
+        + 1_099_511_627_776 * (e.kind as u64)
+        + 281_474_976_710_656 * (e.share as u64)
 }
 
 // Whether the order is held under this one's name.

@@ -1,61 +1,62 @@
-// The walks over a host's flat history: whether all that is held may be held, and what is held under a name.
+// The walks over a host's flat history: whether it is that of a sound state, and what is held under a name.
 use crate::HeldMemory;
 use crate::orders_in::order_from;
 use crate::places::has_name;
 use crate::places::is_before;
 use crate::places::is_fit;
 use crate::places::is_started;
-use crate::places::is_unused;
-use clock::Reading;
+use crate::places::word;
+use host::Frame;
 use host::Held;
 use host::Seen;
+use host::is_framed;
+use host::newest;
 use orders::same;
 ghost use mathlib.Core.Path.{_≡_};
-ghost use mathlib.Core.List.{[], _∷_};
 ghost use Prim.Native.Nat.{_≤_};
-ghost use lib.Dec.{leb};
-ghost use lib.ListN.{take, drop};
-ghost use Rattle.lists.specs.Tests.{allOf};
-ghost use Rattle.lists.specs.Lists.{all, any, rising};
-ghost use Rattle.service.specs.Inside.{beforeIn, fitsIn, startedIn, unusedIn, namedIn, sameIn, otherIn};
+ghost use lib.ListN.{take};
+ghost use Rattle.lists.specs.Lists.{any};
+ghost use Rattle.host.specs.State.{sound};
+ghost use Rattle.service.specs.Inside.{stateIn, namedIn, sameIn, otherIn};
 
-// Whether a flat history is sound: at most 32 held, each in range, rising, and the host's own started; and the unused places zero.
-pub(crate) fn is_history(
-    history: [HeldMemory; 32],
-    held: usize,
-    hosts: u8,
-    own: u8,
-    started: usize,
-    newest: Reading,
-) -> bool
-    ensures { λ r. ⌜ r ≡ allOf (leb held 32 ∷ all (fitsIn hosts) (take held history) ∷ rising beforeIn (take held history) ∷ all (startedIn own started (newest .0)) (take held history) ∷ all unusedIn (drop held history) ∷ []) ⌝ }
+// Whether a frame and a flat history are those of a sound state. The history is walked here, so that it is copied once less; its unused places are gathered into one number.
+pub(crate) fn is_sound(frame: Frame, history: [HeldMemory; 32]) -> bool
+    ensures { λ r. ⌜ r ≡ sound (stateIn frame history) ⌝ }
 {
+    if !is_framed(frame) {
+        return false;
+    }
+    let held = frame.held;
     if held > 32 {
         return false;
     }
+    let plan = frame.plan;
+    let starts = frame.starts;
+    let started = frame.started;
+    let last = newest(starts, started);
     let mut previous = history[0];
     let mut i = 0;
     while i < held {
         let e = history[i];
-        if !is_fit(e, hosts) {
+        if !is_fit(e, plan.hosts) {
             return false;
         }
         if !((i == 0) | is_before(previous, e)) {
             return false;
         }
-        if !is_started(e, own, started, newest) {
+        if !is_started(e, frame.own, started, last) {
             return false;
         }
         previous = e;
         i += 1;
     }
+    let mut bits: u64 = 0;
     while i < 32 {
-        if !is_unused(history[i]) {
-            return false;
-        }
+        let e = history[i];
+        bits = bits | e.stamp.0 | word(e);
         i += 1;
     }
-    true
+    bits == 0
 }
 
 // Whether the order's name is held: for the same order, for another, for any. Orders are compared only under one name.

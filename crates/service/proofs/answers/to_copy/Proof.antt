@@ -17,8 +17,12 @@ use Rattle.host.proofs.Numbers.{says-refused, said-refusal}
 use Rattle.service.specs.Memory.{hostFrom}
 use Rattle.service.specs.Calls.{sendNumber}
 use Rattle.service.proofs.Flats.{same-in, other-in, named-in}
+use Rattle.service.proofs.Sounds.{memory-sound}
 use Rattle.service.proofs.answers.to_copy.Statement.{statement}
 use Rattle.service.proofs.answers.to_copy.Tie as tie
+
+frame-from-requires : tie.Need-frame-from-requires
+frame-from-requires c κs = search needs
 
 is-sound-requires : tie.Need-is-sound-requires
 is-sound-requires c κs = search needs
@@ -26,20 +30,17 @@ is-sound-requires c κs = search needs
 returns : tie.Need-returns
 unfolding receiveTests
 returns c =
-    let a = c .before .before .args in
+    let a = c .before .before .before .before .args in
     let h : Host = hostFrom (a .memory) in
     let x = a .copy in
-    let no : sound h ≡ false = sym (c .before .is-sound .ensures) ∙ not-true _ (c .if1 .taken) in
+    let no : sound h ≡ false = memory-sound (a .memory) _ (c .before .before .before .frame-from .ensures) (c .before .is-sound .ensures) ∙ not-true _ (c .if1 .taken) in
     let e = unsound-first h (receiveChecks h (a .u) (a .link) (a .hop) x (any (sameHeld x) (heldOf h)) (any (otherHeld x) (heldOf h)) (any (sameName x) (heldOf h))) no in
     (ap (λ (k : ℕ). eqb k 0) e, ap sendNumber (says-refused Unsound _ _ _ e))
 
 look-requires : tie.Need-look-requires
 look-requires c κs =
-    let yes : sound (hostFrom (c .before .before .before .args .memory)) ≡ true = sym (c .before .before .is-sound .ensures) ∙ not-false _ (c .before .if1 .left) in
-    sound-is (hostFrom (c .before .before .before .args .memory)) yes .held
-
-frame-from-requires : tie.Need-frame-from-requires
-frame-from-requires c κs = search needs
+    let f = c .before .before .before .before .args .memory in
+    sound-is (hostFrom f) (memory-sound f _ (c .before .before .before .frame-from .ensures) (c .before .is-sound .ensures) ∙ not-false _ (c .if1 .left)) .held
 
 receive-answer-requires : tie.Need-receive-answer-requires
 receive-answer-requires c κs = search needs
@@ -53,9 +54,9 @@ returns-2 c =
     let f = a .memory in
     let h : Host = hostFrom f in
     let x = a .copy in
-    let seen = c .before .before .before .look .ensures in
-    let frame = c .before .before .frame-from in
-    let yes : sound h ≡ true = sym (c .before .before .before .before .before .before .is-sound .ensures) ∙ not-false _ (c .before .before .before .before .before .if1 .left) in
+    let seen = c .before .before .look .ensures in
+    let frame = c .before .before .before .before .before .before .frame-from in
+    let yes : sound h ≡ true = memory-sound (a .memory) _ (frame .ensures) (c .before .before .before .before .is-sound .ensures) ∙ not-false _ (c .before .before .before .if1 .left) in
     let said : says (c .before .receive-answer .result) ≡ receiveSays h (a .u) (a .link) (a .hop) x =
     receive-said h (a .u) (a .link) (a .hop) x (frame .result) _ _ _ yes (frame .ensures)
     (seen .0 ∙ sym (same-in f x), (seen .1 .0 ∙ sym (other-in f x), seen .1 .1 ∙ sym (named-in f x)))
@@ -66,10 +67,10 @@ pub to-copy-spec : {M : Type 1} → statement M
 to-copy-spec =
     tie.close
     (tie.spec
+    frame-from-requires
     is-sound-requires
     returns
     look-requires
-    frame-from-requires
     receive-answer-requires
     sent-requires
     returns-2)
