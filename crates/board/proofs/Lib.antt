@@ -1,8 +1,8 @@
 -- What the proofs of several functions use, and the laws for callers: Laws.
 mod Cells
-mod Placing
-mod Boards
-mod Makings
+pub mod Placing
+pub mod Boards
+pub mod Makings
 mod Settling
 pub mod Laws
 pub mod One

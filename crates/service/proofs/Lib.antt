@@ -4,6 +4,8 @@ mod Converts
 mod Maps
 mod Lefts
 pub mod Back
+mod Standing
+mod Settled
 mod Still
 mod Prefixes
 mod Flats

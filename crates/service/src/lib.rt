@@ -7,11 +7,13 @@ mod calls;
 mod changes;
 mod exports;
 mod frames;
+mod images;
 mod memory;
 mod messages;
 mod orders_in;
 mod places;
 mod plans;
+mod stands;
 mod walks;
 
 use clock::Reading;

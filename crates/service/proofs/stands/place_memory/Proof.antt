@@ -1,8 +1,8 @@
 -- One line for each stand. Assumes nothing.
 use borrow.Author.Needs.{needs}
 use mathlib.Core.Path.{sym}
-use Rattle.service.proofs.boards.place_memory.Statement.{statement}
-use Rattle.service.proofs.boards.place_memory.Tie as tie
+use Rattle.service.proofs.stands.place_memory.Statement.{statement}
+use Rattle.service.proofs.stands.place_memory.Tie as tie
 
 -- One line for each stand. Assumes nothing.
 
