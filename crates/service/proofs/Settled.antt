@@ -88,8 +88,8 @@ module _ (places : List PlaceMemory) where
     abbrev of : ℕ → List PlaceMemory → BoardMemory
     of n new = record { count = n; places = new }
 
-    pub out-in : (new : List PlaceMemory) → new ≡ take at places ++ drop (at + 1) places ++ (noPlace ∷ []) → at < count → boardFrom (of (count - 1) new) ≡ holding (take at l ++ drop (at + 1) l)
-    out-in new e h =
+    pub taken-out-in : (new : List PlaceMemory) → new ≡ take at places ++ drop (at + 1) places ++ (noPlace ∷ []) → at < count → boardFrom (of (count - 1) new) ≡ holding (take at l ++ drop (at + 1) l)
+    taken-out-in new e h =
         ap (λ (t : List PlaceMemory). boardFrom (of (count - 1) t)) e
         ∙ ap (λ (t : List Place). record { count = count - 1; places = t }) (cut-of placeFrom at (at + 1) noPlace places)
         ∙ taken-out-is board count sixteen s at h
@@ -101,5 +101,5 @@ module _ (places : List PlaceMemory) where
         ∙ ap (λ (t : List Place). record { count = count + 1; places = t }) (put-of placeFrom 16 at p places)
         ∙ put-in-is board count sixteen s at (placeFrom p) h room
 
-    pub set-in : (p : PlaceMemory) → at < count → boardFrom (of count (set places at p)) ≡ holding (take at l ++ (placeFrom p ∷ drop (at + 1) l))
-    set-in p h = ap (λ (t : List Place). record { count = count; places = t }) (set-of placeFrom places at p) ∙ replaced-is board count sixteen s at (placeFrom p) h
+    pub replaced-in : (p : PlaceMemory) → at < count → boardFrom (of count (set places at p)) ≡ holding (take at l ++ (placeFrom p ∷ drop (at + 1) l))
+    replaced-in p h = ap (λ (t : List Place). record { count = count; places = t }) (set-of placeFrom places at p) ∙ replaced-is board count sixteen s at (placeFrom p) h

@@ -12,6 +12,7 @@ use Rattle.service.specs.Inside.{placeFitsIn, inFront, blankIn, noPlace}
 use Rattle.service.proofs.boards.is_board.Statement.{statement}
 use Rattle.service.proofs.boards.is_board.Tie as tie
 
+-- a history's walk has one test more; here it is that of fitting again
 abbrev Inv-loop : tie.InvT-loop
 Inv-loop count places last₀ i₀ last i = Walked placeFitsIn inFront placeFitsIn places count last i
 

@@ -1,11 +1,10 @@
 -- The board's tests, in the places; then what is made there stands for what the order makes of the board. Assumes nothing.
 use borrow.Author.Needs.{needs}
-use mathlib.Core.Path.{_≡_, sym, ap, _∙_}
-use mathlib.Core.Bool.{true, false}
+use mathlib.Core.Path.{sym, ap, _∙_}
 use borrow.Author.Tests.{not-true, not-false}
 use Rattle.orders.specs.declared.Order.{Order}
 use Rattle.orders.specs.Orders.{shareFits}
-use Rattle.board.specs.Board.{images, sound, holding, imagesAfter}
+use Rattle.board.specs.Board.{images, holding, imagesAfter}
 use Rattle.board.proofs.Boards.{sound-is}
 use Rattle.service.specs.Memory.{orderFrom, boardFrom}
 use Rattle.service.proofs.Settled.{sound-in, unsound-left, out-left, accepted-left}
