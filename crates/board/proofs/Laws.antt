@@ -75,7 +75,7 @@ holding-sound l h fit up =
       ),
     )
 
-stands-fit : (image : ℕ) (l : List Place) → all placeFits l ≡ true → isAbsent (stands image l) ≡ false → standFits (stands image l) ≡ true
+pub stands-fit : (image : ℕ) (l : List Place) → all placeFits l ≡ true → isAbsent (stands image l) ≡ false → standFits (stands image l) ≡ true
 stands-fit image [] fit some = absurd (true≢false some)
 stands-fit image (p ∷ l) fit some =
     go (eqb (p .image) image) some (and-left (placeFits p) (all placeFits l) fit) (stands-fit image l (and-right (placeFits p) (all placeFits l) fit))
@@ -95,7 +95,7 @@ resumed-fit old e some = go (eqb old 0) refl some
         let pos : 1 ≤ old = let ne = eqb-false old 0 q in omega arith in
         rw (le-leb _ _ pos, e)
 
-outcome-fit : (o : Order) (s : Stand) → shareFits o ≡ true → (isAbsent s ≡ false → standFits s ≡ true) → isAbsent (outcome o s) ≡ false → standFits (outcome o s) ≡ true
+pub outcome-fit : (o : Order) (s : Stand) → shareFits o ≡ true → (isAbsent s ≡ false → standFits s ≡ true) → isAbsent (outcome o s) ≡ false → standFits (outcome o s) ≡ true
 outcome-fit (Publish image share) Absent fits was some = fits
 outcome-fit (Publish image share) (Offered old) fits was some = fits
 outcome-fit (Publish image share) (Halted old) fits was some = was refl

@@ -1,15 +1,16 @@
 -- The promise of each public function admits one result only: the answer, and the board that is left. Assumes nothing.
 use mathlib.Core.Path.{_≡_, refl, ap₂}
-use mathlib.Core.Bool.{cond}
+use mathlib.Core.Bool.{Bool, cond}
 use Prim.Native.Nat.{ℕ}
 use lib.Dec.{eqb}
-use Rattle.lists.proofs.One.{one-call}
+use Rattle.lists.proofs.One.{one-result, one-call}
 use Rattle.orders.specs.declared.Order.{Order}
+use Rattle.board.specs.declared.Stand.{Stand}
 use Rattle.board.specs.declared.Board.{Board}
 use Rattle.board.specs.declared.Answer.{Answer}
 use Rattle.board.specs.declared.Answer.the-variants.{Done, Unsound, OutOfRange}
 use Rattle.board.specs.declared.Applied.{Applied}
-use Rattle.board.specs.Board.{boardRefusal, boardAfter, says}
+use Rattle.board.specs.Board.{isAbsent, outcome, boardRefusal, boardAfter, says}
 
 answerOf : ℕ → Answer
 answerOf n = cond (eqb n 0) Done (cond (eqb n 9) Unsound OutOfRange)
@@ -31,3 +32,10 @@ pub after-order-one : (b : Board) (o : Order) (r s : Applied)
 after-order-one b o r s x y =
     let e = apply-one b o (r .board) (s .board) (r .answer) (s .answer) x y in
     ap₂ (λ (c : Board) (a : Answer). record { board = c; answer = a }) (e .0) (e .1)
+
+-- of one image
+pub outcome-of-one : (o : Order) (old r s : Stand) → r ≡ outcome o old → s ≡ outcome o old → r ≡ s
+outcome-of-one o old r s = one-result
+
+pub absent-one : (stand : Stand) (r s : Bool) → r ≡ isAbsent stand → s ≡ isAbsent stand → r ≡ s
+absent-one stand r s = one-result

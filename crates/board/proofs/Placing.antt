@@ -3,7 +3,7 @@ use mathlib.Core.Path.{_≡_, refl, sym, ap, _∙_, subst}
 use mathlib.Core.Bool.{true}
 use mathlib.Core.List.{List, [], _∷_, _++_, append-nil}
 use mathlib.Core.Logic.{⊎-elim}
-use Prim.Native.Nat.{ℕ, _+_, _≤_, _<_}
+use Prim.Native.Nat.{ℕ, _+_, _≤_, _<_, zero-le}
 use native.Mathlib.Omega.{arith}
 use native.Mathlib.Nat.{eq-or-lt-of-le}
 use native.Mathlib.Numerals.{add-one}
@@ -52,32 +52,45 @@ none-after image p (q ∷ l) h up =
 
 -- ---- the loop that looks for the place: a turn passes a place with a smaller image
 
-module _ (image : ℕ) (l : List Place) (count : ℕ) (fits : count ≤ length l) (at : ℕ) (h : at < count) where
-  abbrev p : Place
-  p = getD l at blank
+pub record Sought (l : List Place) (count image at : ℕ) : Type 0 where
+  pub within : at ≤ count
+  pub passed : (stand : Stand) → settle image stand (take count l) ≡ take at (take count l) ++ settle image stand (drop at (take count l))
+  pub looked : stands image (take count l) ≡ stands image (drop at (take count l))
 
-  next : drop at (take count l) ≡ p ∷ drop (at + 1) (take count l)
-  next = first-next l count fits blank at h
+module _ {l : List Place} {count image : ℕ} where
+  pub seek-start : Sought l count image 0
+  seek-start = record { within = zero-le; passed = λ stand. refl; looked = refl }
 
-  front : take (at + 1) (take count l) ≡ take at (take count l) ++ (p ∷ [])
-  front =
-      ap (λ (k : ℕ). take k (take count l)) (add-one at)
-      ∙ take-suc (take count l) at blank (rw (length-take-le count l fits) h)
-      ∙ ap (λ (x : Place). take at (take count l) ++ (x ∷ [])) (getD-take count l at blank h)
+  module _ {at : ℕ} (s : Sought l count image at) where
+    module _ (fits : count ≤ length l) (h : at < count) where
+      abbrev p : Place
+      p = getD l at blank
 
-  pub passed-turn : p .image < image → (stand : Stand)
-      → settle image stand (take count l) ≡ take at (take count l) ++ settle image stand (drop at (take count l))
-      → settle image stand (take count l) ≡ take (at + 1) (take count l) ++ settle image stand (drop (at + 1) (take count l))
-  passed-turn lt stand inv =
-      inv
-      ∙ ap (λ (t : List Place). take at (take count l) ++ settle image stand t) next
-      ∙ ap (λ (t : List Place). take at (take count l) ++ t) (settle-past image p (drop (at + 1) (take count l)) stand lt)
-      ∙ sym (append-snoc (take at (take count l)) p (settle image stand (drop (at + 1) (take count l))))
-      ∙ ap (λ (t : List Place). t ++ settle image stand (drop (at + 1) (take count l))) (sym front)
+      next : drop at (take count l) ≡ p ∷ drop (at + 1) (take count l)
+      next = first-next l count fits blank at h
 
-  pub looked-turn : p .image < image → stands image (take count l) ≡ stands image (drop at (take count l))
-      → stands image (take count l) ≡ stands image (drop (at + 1) (take count l))
-  looked-turn lt inv = inv ∙ ap (stands image) next ∙ stands-past image p (drop (at + 1) (take count l)) lt
+      front : take (at + 1) (take count l) ≡ take at (take count l) ++ (p ∷ [])
+      front =
+          ap (λ (k : ℕ). take k (take count l)) (add-one at)
+          ∙ take-suc (take count l) at blank (rw (length-take-le count l fits) h)
+          ∙ ap (λ (x : Place). take at (take count l) ++ (x ∷ [])) (getD-take count l at blank h)
+
+      pub seek-turn : p .image < image → Sought l count image (at + 1)
+      seek-turn lt =
+          record {
+            within = omega arith;
+            passed = λ stand.
+                s .passed stand
+                ∙ ap (λ (t : List Place). take at (take count l) ++ settle image stand t) next
+                ∙ ap (λ (t : List Place). take at (take count l) ++ t) (settle-past image p (drop (at + 1) (take count l)) stand lt)
+                ∙ sym (append-snoc (take at (take count l)) p (settle image stand (drop (at + 1) (take count l))))
+                ∙ ap (λ (t : List Place). t ++ settle image stand (drop (at + 1) (take count l))) (sym front);
+            looked = s .looked ∙ ap (stands image) next ∙ stands-past image p (drop (at + 1) (take count l)) lt;
+          }
+
+    -- it ends at a place with no smaller image, or behind them all
+    pub seek-end : (at < count → image ≤ getD l at blank .image) → PlaceOf l count image at
+    seek-end met = record { within = s .within; passed = s .passed; looked = s .looked; met = met }
 
 -- ---- at the place that was found
 

@@ -9,8 +9,9 @@ use orders::Order;
 use places::here;
 use places::made;
 use places::place_of;
+pub use sound::absent;
 use sound::is_sound;
-use table::changed;
+pub use table::outcome_of;
 ghost use mathlib.Core.Path.{_≡_};
 ghost use Rattle.board.specs.Board.{says, boardRefusal, boardAfter, holding, images, imagesAfter};
 ghost use Rattle.board.specs.Inside.{Sound};
@@ -77,7 +78,7 @@ fn after(board: Board, order: Order) -> Board
     let old = here(places, count, at, image);
     let p = Place {
         image,
-        stand: changed(order, old),
+        stand: outcome_of(order, old),
     };
     made(places, count, at, p, old)
 }

@@ -66,7 +66,7 @@ fn is_blank(p: Place) -> bool
     (p.image == 0) & absent(stand)
 }
 
-pub(crate) fn absent(stand: Stand) -> bool
+pub fn absent(stand: Stand) -> bool
     ensures { λ r. ⌜ r ≡ isAbsent stand ⌝ }
 {
     match stand {

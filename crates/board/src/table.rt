@@ -36,7 +36,7 @@ const EFFECTS: [u8; 12] = [
 ];
 
 // How the image of an order stands after it.
-pub(crate) fn changed(order: Order, old: Stand) -> Stand
+pub fn outcome_of(order: Order, old: Stand) -> Stand
     ensures { λ r. ⌜ r ≡ outcome order old ⌝ }
 {
     made_by(

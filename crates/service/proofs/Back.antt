@@ -1,16 +1,14 @@
 -- A sound state comes back from its memory as it was, and memory that stands for a sound state is that state's memory. Assumes nothing.
-use mathlib.Core.Path.{_≡_, refl, sym, ap, ap₂, _∙_, subst}
+use mathlib.Core.Path.{_≡_, refl, sym, ap, _∙_, subst}
 use mathlib.Core.Bool.{Bool, true, false, cond, _&&_, _||_}
 use mathlib.Core.Logic.{_⊎_, inl, inr}
-use mathlib.Core.List.{List, [], _∷_, map}
+use mathlib.Core.List.{List, map}
 use Prim.Native.Nat.{ℕ, _<_}
 use native.Mathlib.Omega.{arith}
 use borrow.Author.Tests.{eqb-true, lt-ltb}
 use lib.Dec.{ltb, leb, eqb}
-use lib.ListN.{take, drop, take-append-drop}
 use Rattle.lists.specs.Lists.{all}
 use Rattle.lists.proofs.Bools.{and-left, and-right, or-true-left, or-true-right, or-cases}
-use Rattle.lists.proofs.Listed.{all-member, member-all, all-append}
 use Rattle.clock.specs.Clock.{largestStamp}
 use Rattle.clock.specs.declared.Reading.{Reading}
 use Rattle.orders.specs.declared.Order.{Order}
@@ -20,7 +18,7 @@ use Rattle.network.specs.Network.{n}
 use Rattle.network.proofs.Ranges.{ranges}
 use Rattle.host.specs.declared.Held.{Held}
 use Rattle.host.specs.declared.Host.{Host}
-use Rattle.host.specs.State.{isNoHeld, heldOf, sound}
+use Rattle.host.specs.State.{isNoHeld, sound}
 use Rattle.host.specs.State as host
 use Rattle.host.proofs.Blanks.{only-held}
 use Rattle.host.proofs.Facts.{SoundIs, sound-is}
@@ -29,6 +27,7 @@ use Rattle.service.specs.declared.HostMemory.{HostMemory}
 use Rattle.service.specs.Memory.{formed, zeros, orderFrom, heldFrom, ownFrom, hostFrom, heldMemory, hostMemory}
 use Rattle.service.specs.Inside.{unusedIn, none}
 use Rattle.service.proofs.Forms.{by-form, from-fits, from-blank}
+use Rattle.service.proofs.Maps.{all-of, all-parts, map-there}
 
 -- ---- a place of a sound state's history holds an order in range, or none
 
@@ -37,10 +36,9 @@ holds x = shareFits (x .order) || isNoHeld x
 
 pub all-hold : (h : Host) → SoundIs h → all holds (h .history) ≡ true
 all-hold h s =
-    subst (λ (l : List Held). all holds l ≡ true) (take-append-drop (h .held) (h .history))
-    (all-append holds (heldOf h) (drop (h .held) (h .history))
-    (member-all holds (heldOf h) (λ x i. or-true-left (shareFits (x .order)) (isNoHeld x) (and-right (leb (x .stamp .0) largestStamp && ltb (x .source) (n (h .plan))) (shareFits (x .order)) (all-member (host.fits (n (h .plan))) (heldOf h) (s .fit) x i))))
-    (member-all holds (drop (h .held) (h .history)) (λ x i. or-true-right (shareFits (x .order)) (isNoHeld x) (all-member isNoHeld (drop (h .held) (h .history)) (s .history-unused) x i))))
+    all-parts (host.fits (n (h .plan))) isNoHeld holds
+    (λ x e. or-true-left (shareFits (x .order)) (isNoHeld x) (and-right (leb (x .stamp .0) largestStamp && ltb (x .source) (n (h .plan))) (shareFits (x .order)) e))
+    (λ x. or-true-right (shareFits (x .order)) (isNoHeld x)) (h .held) (h .history) (s .fit) (s .history-unused)
 
 pub low : (h : Host) → SoundIs h → h .own < 8
 low h s = omega (arith, s .own, ranges (h .plan) (s .ranges) .hosts-high)
@@ -60,15 +58,10 @@ held-back x e = go (or-cases (shareFits (x .order)) (isNoHeld x) e)
     go (inl f) = rw f (ap (λ (o : Order). record { stamp = x .stamp; source = x .source; order = o }) (order-back (x .order) f))
     go (inr f) = subst (λ (y : Held). heldFrom (heldMemory y) ≡ y) (sym (only-held x f)) refl
 
-history-back : (l : List Held) → all holds l ≡ true → map heldFrom (map heldMemory l) ≡ l
-history-back [] e = refl
-history-back (x ∷ l) e =
-    ap₂ (λ (y : Held) (k : List Held). y ∷ k) (held-back x (and-left (holds x) (all holds l) e)) (history-back l (and-right (holds x) (all holds l) e))
-
 pub state-back : (h : Host) → sound h ≡ true → hostFrom (hostMemory h) ≡ h
 state-back h e =
     let s = sound-is h e in
-    rw (lt-ltb _ _ (low h s), history-back (h .history) (all-hold h s))
+    rw (lt-ltb _ _ (low h s), map-there heldMemory heldFrom holds held-back (h .history) (all-hold h s))
 
 -- ---- from the memory
 
@@ -108,10 +101,7 @@ pub only-none : (x : HeldMemory) → unusedIn x ≡ true → x ≡ none
 only-none x e = sym (place-there x (or-true-right (shareFits (heldFrom x .order)) (isNoHeld (heldFrom x)) e)) ∙ ap heldMemory (only-held (heldFrom x) e)
 
 pub places-there : (l : List HeldMemory) → all holds (map heldFrom l) ≡ true → map heldMemory (map heldFrom l) ≡ l
-places-there [] e = refl
-places-there (x ∷ l) e =
-    ap₂ (λ (y : HeldMemory) (k : List HeldMemory). y ∷ k) (place-there x (and-left (holds (heldFrom x)) (all holds (map heldFrom l)) e))
-    (places-there l (and-right (holds (heldFrom x)) (all holds (map heldFrom l)) e))
+places-there l e = map-there heldFrom heldMemory (λ x. holds (heldFrom x)) place-there l (sym (all-of heldFrom holds l) ∙ e)
 
 pub own-there : (own : ℕ) → ownFrom own < 8 → ownFrom own ≡ own
 own-there own = go (ltb own 8)

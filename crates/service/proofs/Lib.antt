@@ -5,6 +5,8 @@ mod Maps
 mod Lefts
 pub mod Back
 mod Ticks
+mod Standing
+mod Settled
 mod Prefixes
 mod Flats
 mod Gathers

@@ -1,10 +1,12 @@
 -- A list of what each element stands for: the first of it, the rest, and what tests and changes say of it. Assumes nothing.
-use mathlib.Core.Path.{_≡_, refl, sym, ap, _∙_}
+use mathlib.Core.Path.{_≡_, refl, sym, ap, ap₂, _∙_, subst}
 use mathlib.Core.Bool.{Bool, true, false, _&&_, _||_}
 use mathlib.Core.List.{List, [], _∷_, _++_, map}
 use Prim.Native.Nat.{ℕ, zero, suc, _-_}
-use lib.ListN.{length, length-map, take, drop, replicate}
+use lib.ListN.{length, length-map, take, drop, set, replicate, take-append-drop}
 use Rattle.lists.specs.Lists.{all, any, rising, risingFrom, insert, keep, pad}
+use Rattle.lists.proofs.Bools.{and-left, and-right}
+use Rattle.lists.proofs.Listed.{all-member, member-all, all-append}
 use Rattle.lists.proofs.MemberLaws.{map-append}
 
 module _ {A B : Type 0} (f : A → B) where
@@ -59,3 +61,34 @@ module _ {A B : Type 0} (f : A → B) where
   pad-of n z l =
       map-append f l (replicate (n - length l) z)
       ∙ ap (λ (t : List B). map f l ++ t) (replicate-of (n - length l) z ∙ ap (λ (k : ℕ). replicate (n - k) (f z)) (sym (length-map l f)))
+
+  -- ---- one element taken out, put in, or set
+
+  pub cut-of : (at k : ℕ) (z : A) (l : List A) → map f (take at l ++ drop k l ++ (z ∷ [])) ≡ take at (map f l) ++ drop k (map f l) ++ (f z ∷ [])
+  cut-of at k z l =
+      map-append f (take at l ++ drop k l) (z ∷ [])
+      ∙ ap (λ (t : List B). t ++ (f z ∷ [])) (map-append f (take at l) (drop k l) ∙ ap₂ (λ (a b : List B). a ++ b) (sym (take-map at l)) (sym (drop-map k l)))
+
+  pub put-of : (n at : ℕ) (x : A) (l : List A) → map f (take n (take at l ++ (x ∷ drop at l))) ≡ take n (take at (map f l) ++ (f x ∷ drop at (map f l)))
+  put-of n at x l =
+      sym (take-map n (take at l ++ (x ∷ drop at l)))
+      ∙ ap (take n) (map-append f (take at l) (x ∷ drop at l) ∙ ap₂ (λ (a b : List B). a ++ (f x ∷ b)) (sym (take-map at l)) (sym (drop-map at l)))
+
+  pub set-of : (l : List A) (i : ℕ) (x : A) → map f (set l i x) ≡ set (map f l) i (f x)
+  set-of [] i x = refl
+  set-of (y ∷ l) zero x = refl
+  set-of (y ∷ l) (suc i) x = ap (λ (t : List B). f y ∷ t) (set-of l i x)
+
+-- a list comes back where each element that passes a test does
+pub map-there : {A B : Type 0} (f : A → B) (g : B → A) (p : A → Bool) → ((x : A) → p x ≡ true → g (f x) ≡ x) → (l : List A) → all p l ≡ true → map g (map f l) ≡ l
+map-there f g p there [] e = refl
+map-there {A} f g p there (x ∷ l) e = ap₂ (λ (y : A) (k : List A). y ∷ k) (there x (and-left (p x) (all p l) e)) (map-there f g p there l (and-right (p x) (all p l) e))
+
+-- a test of all places, by one of the first and one of the others
+pub all-parts : {A : Type 0} (first rest p : A → Bool) → ((x : A) → first x ≡ true → p x ≡ true) → ((x : A) → rest x ≡ true → p x ≡ true)
+    → (n : ℕ) (l : List A) → all first (take n l) ≡ true → all rest (drop n l) ≡ true → all p l ≡ true
+all-parts {A} first rest p from-first from-rest n l a b =
+    subst (λ (t : List A). all p t ≡ true) (take-append-drop n l)
+    (all-append p (take n l) (drop n l)
+    (member-all p (take n l) (λ x i. from-first x (all-member first (take n l) a x i)))
+    (member-all p (drop n l) (λ x i. from-rest x (all-member rest (drop n l) b x i))))

@@ -8,8 +8,11 @@ use Rattle.host.specs.declared.Host.{Host}
 use Rattle.host.specs.State.{bare, with, fits, before, ownStarted, isNoHeld, sameName}
 use Rattle.host.specs.Receive.{sameHeld, otherHeld}
 use Rattle.host.specs.Tick.{due}
+use Rattle.board.specs.Board.{placeFits, isBlank}
+use Rattle.board.specs.Board as board
 use Rattle.service.specs.declared.HeldMemory.{HeldMemory}
-use Rattle.service.specs.Memory.{heldFrom}
+use Rattle.service.specs.declared.PlaceMemory.{PlaceMemory}
+use Rattle.service.specs.Memory.{heldFrom, placeFrom}
 use Rattle.clock.specs.declared.Reading.{Reading}
 use Rattle.service.specs.declared.HostMemory.{HostMemory}
 
@@ -69,3 +72,18 @@ waitsIn Δ u e = not (dueIn Δ u e)
 -- an unused place
 abbrev pub none : HeldMemory
 none = record { stamp = record { 0 = 0 }; image = 0; source = 0; kind = 0; share = 0 }
+
+-- ---- the board's tests of what stands in a place
+
+abbrev pub placeFitsIn : PlaceMemory → Bool
+placeFitsIn p = placeFits (placeFrom p)
+
+abbrev pub inFront : PlaceMemory → PlaceMemory → Bool
+inFront p q = board.before (placeFrom p) (placeFrom q)
+
+abbrev pub blankIn : PlaceMemory → Bool
+blankIn p = isBlank (placeFrom p)
+
+-- an unused place of a board
+abbrev pub noPlace : PlaceMemory
+noPlace = record { image = 0; stand = 0; share = 0 }

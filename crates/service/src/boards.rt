@@ -1,135 +1,83 @@
-// An order on a board's flat memory, by value.
+// An order on a board's flat memory, by value: the walk of its 16 places, and its images changed where they stand.
 use crate::BoardLeft;
 use crate::BoardMemory;
 use crate::PlaceMemory;
+use crate::images::here;
+use crate::images::made;
+use crate::images::place_of;
 use crate::orders_in::order_from;
-use board::Answer;
-use board::Board;
-use board::Place;
-use board::Stand;
+use crate::stands::is_blank;
+use crate::stands::is_fit;
+use orders::Order;
 ghost use mathlib.Core.Path.{_≡_};
-ghost use Rattle.board.specs.Board.{blank, says, boardRefusal};
-ghost use Rattle.service.specs.Memory.{orderFrom, standFrom, placeFrom, boardFrom, placeMemory, boardMemory};
+ghost use mathlib.Core.Bool.{true};
+ghost use mathlib.Core.List.{[], _∷_, map};
+ghost use lib.Dec.{leb};
+ghost use lib.ListN.{take, drop};
+ghost use Rattle.lists.specs.Tests.{allOf};
+ghost use Rattle.lists.specs.Lists.{all, rising};
+ghost use Rattle.orders.specs.Orders.{shareFits};
+ghost use Rattle.board.specs.Board.{holding, imagesAfter, boardRefusal};
+ghost use Rattle.board.specs.Inside.{Sound};
+ghost use Rattle.service.specs.Memory.{orderFrom, placeFrom, boardFrom};
 ghost use Rattle.service.specs.Calls.{orderLeft};
+ghost use Rattle.service.specs.Inside.{placeFitsIn, inFront, blankIn};
 
 pub(crate) fn left_by_order(memory: BoardMemory, kind: u8, image: u32, share: u16) -> BoardLeft
     ensures { λ r. ⌜ (r .memory ≡ orderLeft memory (orderFrom kind image share)) × (r .answer ≡ boardRefusal (boardFrom memory) (orderFrom kind image share)) ⌝ }
 {
-    let board = board_from(memory);
-    let order = order_from(kind, image, share);
-    let applied = board::after_order(board, order);
-    let answer = applied.answer;
-    let number = number_of(answer);
-    if number != 0 {
-        return BoardLeft {
-            memory,
-            answer: number,
-        };
+    let places = memory.places;
+    let count = memory.count;
+    if !is_board(places, count) {
+        return BoardLeft { memory, answer: 9 };
     }
-    let after = applied.board;
+    let order = order_from(kind, image, share);
+    if !orders::share_fits(order) {
+        return BoardLeft { memory, answer: 23 };
+    }
     BoardLeft {
-        memory: board_memory(after),
+        memory: after(places, count, order),
         answer: 0,
     }
 }
 
-fn number_of(answer: Answer) -> u64
-    ensures { λ r. ⌜ r ≡ says answer ⌝ }
+// Whether flat places are a sound board: at most 16 in use, each fit, rising; and the unused ones zero.
+fn is_board(places: [PlaceMemory; 16], count: usize) -> bool
+    ensures { λ r. ⌜ r ≡ allOf (leb count 16 ∷ all placeFitsIn (take count places) ∷ rising inFront (take count places) ∷ all blankIn (drop count places) ∷ []) ⌝ }
 {
-    match answer {
-        Answer::Done => 0,
-        Answer::Unsound => 9,
-        Answer::OutOfRange => 23,
+    if count > 16 {
+        return false;
     }
-}
-
-// What memory stands for.
-fn board_from(memory: BoardMemory) -> Board
-    ensures { λ r. ⌜ r ≡ boardFrom memory ⌝ }
-{
-    let old = memory.places;
-    let mut places = [no_place(); 16];
-    let mut i = 0;
-    while i < 16 {
-        let e = old[i];
-        places[i] = place_from(e);
+    let mut last = places[0];
+    let mut i: usize = 0;
+    while i < count {
+        let p = places[i];
+        if !is_fit(p) {
+            return false;
+        }
+        if !((i == 0) | (last.image < p.image)) {
+            return false;
+        }
+        last = p;
         i += 1;
     }
-    Board {
-        count: memory.count,
-        places,
-    }
-}
-
-fn no_place() -> Place
-    ensures { λ r. ⌜ r ≡ blank ⌝ }
-{
-    Place {
-        image: 0,
-        stand: Stand::Absent,
-    }
-}
-
-fn place_from(p: PlaceMemory) -> Place
-    ensures { λ r. ⌜ r ≡ placeFrom p ⌝ }
-{
-    Place {
-        image: p.image,
-        stand: stand_from(p.stand, p.share),
-    }
-}
-
-fn stand_from(stand: u16, share: u16) -> Stand
-    ensures { λ r. ⌜ r ≡ standFrom stand share ⌝ }
-{
-    if (stand == 0) & (share == 0) {
-        return Stand::Absent;
-    }
-    if (stand == 1) & (share <= 100) {
-        return Stand::Offered(share as u8);
-    }
-    if (stand == 2) & (share <= 100) {
-        return Stand::Halted(share as u8);
-    }
-    Stand::Offered(0)
-}
-
-fn board_memory(board: Board) -> BoardMemory
-    ensures { λ r. ⌜ r ≡ boardMemory board ⌝ }
-{
-    let old = board.places;
-    let mut places = [place_memory(no_place()); 16];
-    let mut i = 0;
     while i < 16 {
-        let e = old[i];
-        places[i] = place_memory(e);
+        if !is_blank(places[i]) {
+            return false;
+        }
         i += 1;
     }
-    BoardMemory {
-        count: board.count,
-        places,
-    }
+    true
 }
 
-fn place_memory(p: Place) -> PlaceMemory
-    ensures { λ r. ⌜ r ≡ placeMemory p ⌝ }
+fn after(places: [PlaceMemory; 16], count: usize, order: Order) -> BoardMemory
+    requires { ⌜ Sound (map placeFrom places) count ⌝ }
+    requires { ⌜ shareFits order ≡ true ⌝ }
+    ensures { λ r. ⌜ boardFrom r ≡ holding (imagesAfter order (take count (map placeFrom places))) ⌝ }
 {
-    let stand = p.stand;
-    match stand {
-        Stand::Absent => PlaceMemory {
-            image: p.image,
-            stand: 0,
-            share: 0,
-        },
-        Stand::Offered(share) => PlaceMemory {
-            image: p.image,
-            stand: 1,
-            share: share as u16,
-        },
-        Stand::Halted(share) => PlaceMemory {
-            image: p.image,
-            stand: 2,
-            share: share as u16,
-        },
-    }
+    let image = orders::image(order);
+    let at = place_of(places, count, image);
+    let old = here(places, count, at, image);
+    let new = board::outcome_of(order, old);
+    made(places, count, at, image, old, new)
 }

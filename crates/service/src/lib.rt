@@ -1,4 +1,4 @@
-// The door for a service that is not written in Rattle: exported calls over flat memory, which holds no enum and no reference. A host's calls work on that memory itself, by the host's own rules.
+// The door for a service that is not written in Rattle: exported calls over flat memory, which holds no enum and no reference. A host's calls and a board's work on that memory itself, by the host's and the board's own rules.
 // Every byte of the memory is some field's, and any bytes are allowed: what is not the memory of a sound state is refused 9.
 mod afters;
 mod answers;
@@ -7,11 +7,13 @@ mod calls;
 mod changes;
 mod exports;
 mod frames;
+mod images;
 mod memory;
 mod messages;
 mod orders_in;
 mod places;
 mod plans;
+mod stands;
 mod walks;
 
 use clock::Reading;

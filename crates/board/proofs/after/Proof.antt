@@ -13,15 +13,15 @@ place-of-requires c κs = search needs
 here-requires : tie.Need-here-requires
 here-requires c κs = search needs
 
-changed-requires : tie.Need-changed-requires
-changed-requires c κs = search needs
+outcome-of-requires : tie.Need-outcome-of-requires
+outcome-of-requires c κs = search needs
 
 made-requires : tie.Need-made-requires
 made-requires c κs = search needs
 
 returns : tie.Need-returns
 unfolding imagesAfter
-returns c = simp (c .made .ensures, c .before .changed .ensures, c .before .before .here .ensures, c .before .before .before .before .before .image .ensures)
+returns c = simp (c .made .ensures, c .before .outcome-of .ensures, c .before .before .here .ensures, c .before .before .before .before .before .image .ensures)
 
 pub after-spec : {M : Type 1} → statement M
 after-spec =
@@ -30,6 +30,6 @@ after-spec =
     image-requires
     place-of-requires
     here-requires
-    changed-requires
+    outcome-of-requires
     made-requires
     returns)

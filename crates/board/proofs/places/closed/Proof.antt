@@ -1,24 +1,20 @@
 -- The invariant: with the place at i left out, the places are those with the place at `at` left out. Assumes nothing.
-use mathlib.Core.Path.{_≡_, refl, subst}
-use mathlib.Core.List.{List, _++_}
-use Prim.Native.Nat.{ℕ, _+_, _-_, _≤_}
-use lib.ListN.{length, take, drop, length-set}
-use Rattle.lists.proofs.Places.{close-turn, close-end}
 use Rattle.board.specs.Board.{blank}
-use Rattle.board.specs.declared.Place.{Place}
 use borrow.Author.Needs.{needs}
+use Prim.Native.Nat.{_-_}
+use Rattle.board.proofs.Moves.{MovedDown, down-start, down-turn, down-end}
 use native.Mathlib.Omega.{arith}
 use Rattle.board.proofs.places.closed.Statement.{statement}
 use Rattle.board.proofs.places.closed.Tie as tie
 
 abbrev Inv-loop : tie.InvT-loop
-Inv-loop at out₀ i₀ out i = (i ≤ 15) × ((length out ≡ 16) × (take i out ++ drop (i + 1) out ≡ take at out₀ ++ drop (at + 1) out₀))
+Inv-loop at out₀ i₀ out i = MovedDown 15 out₀ at out i
 
 abbrev μ-loop : tie.MeasureT-loop
 μ-loop at out₀ i₀ out i = 15 - i
 
 loop-holds : tie.Need-loop-holds Inv-loop μ-loop
-loop-holds c = (search needs, (search needs, refl))
+loop-holds c = down-start (omega arith) (omega arith)
 
 add-out : tie.Need-add-out Inv-loop μ-loop
 add-out c = search needs
@@ -42,19 +38,13 @@ loop-less : tie.Need-loop-less Inv-loop μ-loop
 loop-less c = search needs
 
 loop-again : tie.Need-loop-again Inv-loop μ-loop
-loop-again c =
-    let s = c .before .before .loop in
-    (search needs, (simp length-set (s .inv .1 .0), close-turn blank (s .out) (s .i) (omega arith) (s .inv .1 .1)))
+loop-again c = down-turn blank (c .before .before .loop .inv) (omega arith)
 
 array-set-from-out-2 : tie.Need-array-set-from-out-2 Inv-loop μ-loop
 array-set-from-out-2 c = search needs
 
 returns : tie.Need-returns Inv-loop μ-loop
-returns c =
-    let s = c .before .loop in
-    let last : s .i ≡ 15 = omega arith in
-    let left : List Place = take (c .before .before .args .at) (c .before .before .args .places) ++ drop (c .before .before .args .at + 1) (c .before .before .args .places) in
-    close-end blank (s .out) 15 (s .inv .1 .0) (subst (λ (i : ℕ). take i (s .out) ++ drop (i + 1) (s .out) ≡ left) last (s .inv .1 .1))
+returns c = down-end blank (c .before .loop .inv) (omega arith)
 
 pub closed-spec : {M : Type 1} → statement M
 closed-spec =

@@ -1,23 +1,20 @@
 -- The invariant: with what is carried put in at i, the places are those with p put in at `at`. Assumes nothing.
-use mathlib.Core.Path.{_≡_, refl}
-use mathlib.Core.List.{_∷_, _++_}
-use Prim.Native.Nat.{_-_, _≤_}
-use lib.ListN.{length, take, drop, length-set}
-use Rattle.lists.proofs.Places.{shift-turn, shift-end}
 use Rattle.board.specs.Board.{blank}
 use borrow.Author.Needs.{needs}
+use Prim.Native.Nat.{_-_}
+use Rattle.board.proofs.Moves.{MovedUp, up-start, up-turn, up-end}
 use native.Mathlib.Omega.{arith}
 use Rattle.board.proofs.places.opened.Statement.{statement}
 use Rattle.board.proofs.places.opened.Tie as tie
 
 abbrev Inv-loop : tie.InvT-loop
-Inv-loop at out₀ carried₀ i₀ out carried i = (i ≤ 16) × ((length out ≡ 16) × (take i out ++ (carried ∷ drop i out) ≡ take at out₀ ++ (carried₀ ∷ drop at out₀)))
+Inv-loop at out₀ carried₀ i₀ out carried i = MovedUp 16 out₀ at carried₀ out carried i
 
 abbrev μ-loop : tie.MeasureT-loop
 μ-loop at out₀ carried₀ i₀ out carried i = 16 - i
 
 loop-holds : tie.Need-loop-holds Inv-loop μ-loop
-loop-holds c = (search needs, (search needs, refl))
+loop-holds c = up-start (omega arith) (omega arith)
 
 mul-next : tie.Need-mul-next Inv-loop μ-loop
 mul-next c = search needs
@@ -38,14 +35,10 @@ loop-less : tie.Need-loop-less Inv-loop μ-loop
 loop-less c = search needs
 
 loop-again : tie.Need-loop-again Inv-loop μ-loop
-loop-again c =
-    let s = c .before .before .loop in
-    (search needs, (simp length-set (s .inv .1 .0), shift-turn blank (s .out) (s .carried) (s .i) (omega arith) (s .inv .1 .1)))
+loop-again c = up-turn (c .before .before .loop .inv) blank (omega arith)
 
 returns : tie.Need-returns Inv-loop μ-loop
-returns c =
-    let s = c .before .loop in
-    shift-end (s .out) (s .carried) (s .i) 16 (s .inv .1 .0) (omega arith) (s .inv .1 .1)
+returns c = up-end (c .before .loop .inv) (omega arith)
 
 pub opened-spec : {M : Type 1} → statement M
 opened-spec =

@@ -1,27 +1,19 @@
 -- The invariant: every place passed has a smaller image. Assumes nothing.
-use mathlib.Core.Path.{_≡_, refl}
-use Prim.Native.Nat.{_≤_, _<_, _-_}
-use mathlib.Core.List.{_++_}
-use lib.ListN.{length, take, drop}
-use Rattle.board.specs.Board.{stands, settle}
-use Rattle.board.specs.declared.Stand.{Stand}
-use Rattle.board.proofs.Placing.{passed-turn, looked-turn}
+use Prim.Native.Nat.{_-_}
+use Rattle.board.proofs.Placing.{Sought, seek-start, seek-turn, seek-end}
 use borrow.Author.Needs.{needs}
 use native.Mathlib.Omega.{arith}
 use Rattle.board.proofs.places.place_of.Statement.{statement}
 use Rattle.board.proofs.places.place_of.Tie as tie
 
 abbrev Inv-loop : tie.InvT-loop
-Inv-loop count image places i₀ i =
-    (i ≤ count)
-    × (((stand : Stand) → settle image stand (take count places) ≡ take i (take count places) ++ settle image stand (drop i (take count places)))
-    × (stands image (take count places) ≡ stands image (drop i (take count places))))
+Inv-loop count image places i₀ i = Sought places count image i
 
 abbrev μ-loop : tie.MeasureT-loop
 μ-loop count image places i₀ i = count - i
 
 loop-holds : tie.Need-loop-holds Inv-loop μ-loop
-loop-holds c = (search needs, (λ stand. refl, refl))
+loop-holds c = seek-start
 
 mul-p : tie.Need-mul-p Inv-loop μ-loop
 mul-p c = search needs
@@ -30,9 +22,7 @@ array-copy-out-p : tie.Need-array-copy-out-p Inv-loop μ-loop
 array-copy-out-p c = search needs
 
 returns : tie.Need-returns Inv-loop μ-loop
-returns c =
-    let s = c .before .before .before .before .loop in
-    record { within = search needs; passed = s .inv .1 .0; looked = s .inv .1 .1; met = λ h. c .if1 .taken }
+returns c = seek-end (c .before .before .before .before .loop .inv) (λ h. c .if1 .taken)
 
 add-i : tie.Need-add-i Inv-loop μ-loop
 add-i c = search needs
@@ -41,22 +31,10 @@ loop-less : tie.Need-loop-less Inv-loop μ-loop
 loop-less c = search needs
 
 loop-again : tie.Need-loop-again Inv-loop μ-loop
-loop-again c =
-    let a = c .before .before .before .before .before .args in
-    let s = c .before .before .before .before .loop in
-    let fits : a .count ≤ length (a .t1) = omega arith in
-    let inside : s .i < a .count = omega arith in (
-      search needs,
-      (
-        λ stand. passed-turn (a .image) (a .t1) (a .count) fits (s .i) inside (c .if1 .left) stand (s .inv .1 .0 stand),
-        looked-turn (a .image) (a .t1) (a .count) fits (s .i) inside (c .if1 .left) (s .inv .1 .1),
-      ),
-    )
+loop-again c = seek-turn (c .before .before .before .before .loop .inv) (search needs) (search needs) (c .if1 .left)
 
 returns-2 : tie.Need-returns-2 Inv-loop μ-loop
-returns-2 c =
-    let s = c .before .loop in
-    record { within = search needs; passed = s .inv .1 .0; looked = s .inv .1 .1; met = λ h. absurd (omega arith) }
+returns-2 c = seek-end (c .before .loop .inv) (λ h. absurd (omega arith))
 
 pub place-of-spec : {M : Type 1} → statement M
 place-of-spec =

@@ -1,60 +1,53 @@
--- What the order makes of the board that the memory stands for is left. Assumes nothing.
+-- The board's tests, in the places; then what is made there stands for what the order makes of the board. Assumes nothing.
 use borrow.Author.Needs.{needs}
-use mathlib.Core.Path.{_≡_, refl, sym, ap, _∙_}
-use borrow.Author.Tests.{ne-eqb}
+use mathlib.Core.Path.{sym, ap, _∙_}
+use borrow.Author.Tests.{not-true, not-false}
 use Rattle.orders.specs.declared.Order.{Order}
-use Rattle.board.specs.declared.Board.{Board}
-use Rattle.board.specs.Board.{boardRefusal, boardAfter}
-use Rattle.service.specs.Memory.{boardFrom, boardMemory, orderFrom}
+use Rattle.orders.specs.Orders.{shareFits}
+use Rattle.board.specs.Board.{images, holding, imagesAfter}
+use Rattle.board.proofs.Boards.{sound-is}
+use Rattle.service.specs.Memory.{orderFrom, boardFrom}
+use Rattle.service.proofs.Settled.{sound-in, unsound-left, out-left, accepted-left}
 use Rattle.service.proofs.boards.left_by_order.Statement.{statement}
 use Rattle.service.proofs.boards.left_by_order.Tie as tie
 
-board-from-requires : tie.Need-board-from-requires
-board-from-requires c κs = search needs
+is-board-requires : tie.Need-is-board-requires
+is-board-requires c κs = search needs
+
+returns : tie.Need-returns
+returns c = let a = c .before .before .before .args in unsound-left (a .memory) (orderFrom (a .kind) (a .image) (a .share)) (sound-in (c .before .before .before .args .memory) ∙ sym (c .before .is-board .ensures) ∙ not-true _ (c .if1 .taken))
 
 order-from-requires : tie.Need-order-from-requires
 order-from-requires c κs = search needs
 
-after-order-requires : tie.Need-after-order-requires
-after-order-requires c κs = search needs
-
-number-of-requires : tie.Need-number-of-requires
-number-of-requires c κs = search needs
-
-returns : tie.Need-returns
-returns c =
-    let a = c .before .before .before .before .before .args in
-    let b = c .before .before .before .before .board-from in
-    let r = c .before .before .after-order in
-    let o : Order = orderFrom (a .kind) (a .image) (a .share) in
-    let told : c .before .number-of .result ≡ boardRefusal (boardFrom (a .memory)) o =
-    c .before .number-of .ensures ∙ r .ensures .1 ∙ ap (λ (g : Board). boardRefusal g (c .before .before .before .order-from .result)) (b .ensures) ∙ ap (boardRefusal (boardFrom (a .memory))) (c .before .before .before .order-from .ensures) in
-    rw (← told, ne-eqb _ _ (c .if1 .taken)) (refl, refl)
-
-board-memory-requires : tie.Need-board-memory-requires
-board-memory-requires c κs = search needs
+share-fits-requires : tie.Need-share-fits-requires
+share-fits-requires c κs = search needs
 
 returns-2 : tie.Need-returns-2
 returns-2 c =
+    let a = c .before .before .before .before .before .before .args in
+    out-left (a .memory) (orderFrom (a .kind) (a .image) (a .share)) (sound-in (c .before .before .before .before .before .before .args .memory) ∙ sym (c .before .before .before .before .is-board .ensures) ∙ not-false _ (c .before .before .before .if1 .left))
+    (ap shareFits (sym (c .before .before .order-from .ensures)) ∙ sym (c .before .share-fits .ensures) ∙ not-true _ (c .if2 .taken))
+
+after-requires : tie.Need-after-requires
+after-requires c κs = (sound-is (boardFrom (c .before .before .before .before .before .before .args .memory)) (sound-in (c .before .before .before .before .before .before .args .memory) ∙ sym (c .before .before .before .before .is-board .ensures) ∙ not-false _ (c .before .before .before .if1 .left)), sym (c .before .share-fits .ensures) ∙ not-false _ (c .if2 .left))
+
+returns-3 : tie.Need-returns-3
+returns-3 c =
     let a = c .before .before .before .before .before .before .before .args in
-    let b = c .before .before .before .before .before .before .board-from in
-    let r = c .before .before .before .before .after-order in
-    let o : Order = orderFrom (a .kind) (a .image) (a .share) in
-    let given = c .before .before .before .before .before .order-from in
-    let told : 0 ≡ boardRefusal (boardFrom (a .memory)) o =
-    sym (c .before .before .if1 .left) ∙ c .before .before .before .number-of .ensures ∙ r .ensures .1 ∙ ap (λ (g : Board). boardRefusal g (given .result)) (b .ensures) ∙ ap (boardRefusal (boardFrom (a .memory))) (given .ensures) in
-    let after : r .result .board ≡ boardAfter (boardFrom (a .memory)) o =
-    r .ensures .0 ∙ ap (λ (g : Board). boardAfter g (given .result)) (b .ensures) ∙ ap (boardAfter (boardFrom (a .memory))) (given .ensures) in
-    (c .board-memory .ensures ∙ ap boardMemory after ∙ rw (← told) refl, told)
+    let given = c .before .before .before .order-from in
+    accepted-left (a .memory) (orderFrom (a .kind) (a .image) (a .share)) (c .after .result) (sound-in (c .before .before .before .before .before .before .before .args .memory) ∙ sym (c .before .before .before .before .before .is-board .ensures) ∙ not-false _ (c .before .before .before .before .if1 .left))
+    (ap shareFits (sym (given .ensures)) ∙ sym (c .before .before .share-fits .ensures) ∙ not-false _ (c .before .if2 .left))
+    (c .after .ensures ∙ ap (λ (o : Order). holding (imagesAfter o (images (boardFrom (a .memory))))) (given .ensures))
 
 pub left-by-order-spec : {M : Type 1} → statement M
 left-by-order-spec =
     tie.close
     (tie.spec
-    board-from-requires
-    order-from-requires
-    after-order-requires
-    number-of-requires
+    is-board-requires
     returns
-    board-memory-requires
-    returns-2)
+    order-from-requires
+    share-fits-requires
+    returns-2
+    after-requires
+    returns-3)

@@ -4,8 +4,8 @@ use Prim.Native.Nat.{_≤_}
 use borrow.Author.Tests.{leb-true}
 use lib.Dec.{leb, eqb}
 use Rattle.lists.proofs.Bools.{and-right}
-use Rattle.service.proofs.boards.stand_from.Statement.{statement}
-use Rattle.service.proofs.boards.stand_from.Tie as tie
+use Rattle.service.proofs.stands.stand_from.Statement.{statement}
+use Rattle.service.proofs.stands.stand_from.Tie as tie
 
 returns : tie.Need-returns
 returns c = simp (c .if1 .taken)

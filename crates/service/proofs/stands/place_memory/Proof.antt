@@ -1,10 +1,7 @@
 -- One line for each stand. Assumes nothing.
 use borrow.Author.Needs.{needs}
-use mathlib.Core.Path.{sym}
-use Rattle.service.proofs.boards.place_memory.Statement.{statement}
-use Rattle.service.proofs.boards.place_memory.Tie as tie
-
--- One line for each stand. Assumes nothing.
+use Rattle.service.proofs.stands.place_memory.Statement.{statement}
+use Rattle.service.proofs.stands.place_memory.Tie as tie
 
 enum-told : tie.Need-enum-told
 enum-told c = search needs

@@ -1,8 +1,8 @@
 -- What the code of the table makes of the stand is what the paper's table says, cell by cell. Assumes nothing.
 use borrow.Author.Needs.{needs}
 use Rattle.board.proofs.Cells.{kinds, states, cells}
-use Rattle.board.proofs.table.changed.Statement.{statement}
-use Rattle.board.proofs.table.changed.Tie as tie
+use Rattle.board.proofs.table.outcome_of.Statement.{statement}
+use Rattle.board.proofs.table.outcome_of.Tie as tie
 
 kind-requires : tie.Need-kind-requires
 kind-requires c κs = search needs
@@ -22,8 +22,8 @@ made-by-requires c κs = search needs
 returns : tie.Need-returns
 returns c = simp (c .made-by .ensures, c .before .share .ensures, c .before .before .effect .ensures, c .before .before .before .state-of .ensures, c .before .before .before .before .kind .ensures) (cells (c .before .before .before .before .before .args .order) (c .before .before .before .before .before .args .old))
 
-pub changed-spec : {M : Type 1} → statement M
-changed-spec =
+pub outcome-of-spec : {M : Type 1} → statement M
+outcome-of-spec =
     tie.close
     (tie.spec
     kind-requires
