@@ -29,7 +29,7 @@ unless-same : (t : Bool) (l : List Place) → cond t l l ≡ l
 unless-same true l = refl
 unless-same false l = refl
 
-module _ (places : List Place) (count image at : ℕ) (old : Stand) (k : Known places count image at old) (long : length places ≡ 16) where
+module _ {places : List Place} {count image at : ℕ} {old : Stand} (k : Known places count image at old) (long : length places ≡ 16) where
   abbrev l : List Place
   l = take count places
 
@@ -43,7 +43,7 @@ module _ (places : List Place) (count image at : ℕ) (old : Stand) (k : Known p
       subst (λ (p : Place). placeFits p ≡ true) (getD-take count places at blank h)
       (all-at placeFits blank l at (rw (length-take-le count places fits) h) (k .whole .fit)) in
       fits-present (getD places at blank .stand) in-use
-      (ap isAbsent (stands-here places count image at fits (k .place) h e ∙ sym (k .stood)) ∙ none)
+      (ap isAbsent (stands-here (k .place) fits h e ∙ sym (k .stood)) ∙ none)
 
   -- one that was not absent is
   pub found : isAbsent old ≡ false → (at < count) × (getD places at blank .image ≡ image)
@@ -54,8 +54,8 @@ module _ (places : List Place) (count image at : ℕ) (old : Stand) (k : Known p
 
       go : Dec (at < count) → Dec (getD places at blank .image ≡ image) → (at < count) × (getD places at blank .image ≡ image)
       go (yes h) (yes e) = (h, e)
-      go (yes h) (no ne) = absurd (gone (absent-here places count image at fits (k .place) (k .whole .up) h ne ∙ sym (k .stood)))
-      go (no h) d = absurd (gone (absent-last places count image at fits (k .place) (omega arith) ∙ sym (k .stood)))
+      go (yes h) (no ne) = absurd (gone (absent-here (k .place) fits (k .whole .up) h ne ∙ sym (k .stood)))
+      go (no h) d = absurd (gone (absent-last (k .place) fits (omega arith) ∙ sym (k .stood)))
 
   module _ (stand : Stand) where
     abbrev new : List Place
@@ -73,7 +73,7 @@ module _ (places : List Place) (count image at : ℕ) (old : Stand) (k : Known p
     pub kept : isAbsent old ≡ true → isAbsent stand ≡ true → record { count = count; places = places } ≡ holding (unlessFull new l)
     kept none gone =
         let same : new ≡ l =
-        settle-new places count image at fits (k .place) (missing none) stand
+        settle-new (k .place) fits (missing none) stand
         ∙ ap (λ (t : Bool). take at l ++ (cond t [] (p ∷ []) ++ drop at l)) gone
         ∙ take-append-drop at l in
         holds-itself places count long (k .whole)
@@ -81,7 +81,7 @@ module _ (places : List Place) (count image at : ℕ) (old : Stand) (k : Known p
 
     pub put-in : isAbsent old ≡ true → isAbsent stand ≡ false → new ≡ take at l ++ (p ∷ drop at l)
     put-in none some =
-        settle-new places count image at fits (k .place) (missing none) stand
+        settle-new (k .place) fits (missing none) stand
         ∙ ap (λ (t : Bool). take at l ++ (cond t [] (p ∷ []) ++ drop at l)) some
 
     pub full : isAbsent old ≡ true → isAbsent stand ≡ false → 16 ≤ count → record { count = count; places = places } ≡ holding (unlessFull new l)
@@ -107,7 +107,7 @@ module _ (places : List Place) (count image at : ℕ) (old : Stand) (k : Known p
         let h = found some .0 in
         let ll : length l ≡ count = images-long places count long (k .whole) in
         roomy (take at l ++ drop (at + 1) l)
-        (settle-here places count image at fits (k .place) h (found some .1) stand
+        (settle-here (k .place) fits h (found some .1) stand
         ∙ ap (λ (t : Bool). take at l ++ (cond t [] (p ∷ []) ++ drop (at + 1) l)) gone)
         (let long = splice-long l [] at (at + 1) (omega arith) in omega arith)
 
@@ -118,6 +118,6 @@ module _ (places : List Place) (count image at : ℕ) (old : Stand) (k : Known p
         let h = found some .0 in
         let ll : length l ≡ count = images-long places count long (k .whole) in
         roomy (take at l ++ (p ∷ drop (at + 1) l))
-        (settle-here places count image at fits (k .place) h (found some .1) stand
+        (settle-here (k .place) fits h (found some .1) stand
         ∙ ap (λ (t : Bool). take at l ++ (cond t [] (p ∷ []) ++ drop (at + 1) l)) here)
         (let long = splice-long l (p ∷ []) at (at + 1) (omega arith) in omega arith)

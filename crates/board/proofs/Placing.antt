@@ -94,7 +94,7 @@ module _ {l : List Place} {count image : ℕ} where
 
 -- ---- at the place that was found
 
-module _ (l : List Place) (count image at : ℕ) (fits : count ≤ length l) (at-place : PlaceOf l count image at) where
+module _ {l : List Place} {count image at : ℕ} (at-place : PlaceOf l count image at) (fits : count ≤ length l) where
   -- the image stands there
   pub stands-here : at < count → getD l at blank .image ≡ image → getD l at blank .stand ≡ stands image (take count l)
   stands-here h e =

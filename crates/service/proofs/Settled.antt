@@ -70,6 +70,9 @@ module _ (places : List PlaceMemory) where
   abbrev board : List Place
   board = map placeFrom places
 
+  pub sixteen : length places ≡ 16 → length board ≡ 16
+  sixteen long = length-map places placeFrom ∙ long
+
   pub place-at : (i : ℕ) → getD board i blank ≡ placeFrom (getD places i noPlace)
   place-at i = List·getD-map placeFrom places i noPlace
 
@@ -82,9 +85,6 @@ module _ (places : List PlaceMemory) where
     abbrev l : List Place
     l = take count board
 
-    sixteen : length board ≡ 16
-    sixteen = length-map places placeFrom ∙ long
-
     abbrev of : ℕ → List PlaceMemory → BoardMemory
     of n new = record { count = n; places = new }
 
@@ -92,14 +92,14 @@ module _ (places : List PlaceMemory) where
     taken-out-in new e h =
         ap (λ (t : List PlaceMemory). boardFrom (of (count - 1) t)) e
         ∙ ap (λ (t : List Place). record { count = count - 1; places = t }) (cut-of placeFrom at (at + 1) noPlace places)
-        ∙ taken-out-is board count sixteen s at h
+        ∙ taken-out-is board count (sixteen long) s at h
 
     pub put-in-in : (p : PlaceMemory) (new : List PlaceMemory) → new ≡ take 16 (take at places ++ (p ∷ drop at places)) → at ≤ count → count < 16
         → boardFrom (of (count + 1) new) ≡ holding (take at l ++ (placeFrom p ∷ drop at l))
     put-in-in p new e h room =
         ap (λ (t : List PlaceMemory). boardFrom (of (count + 1) t)) e
         ∙ ap (λ (t : List Place). record { count = count + 1; places = t }) (put-of placeFrom 16 at p places)
-        ∙ put-in-is board count sixteen s at (placeFrom p) h room
+        ∙ put-in-is board count (sixteen long) s at (placeFrom p) h room
 
     pub replaced-in : (p : PlaceMemory) → at < count → boardFrom (of count (set places at p)) ≡ holding (take at l ++ (placeFrom p ∷ drop (at + 1) l))
-    replaced-in p h = ap (λ (t : List Place). record { count = count; places = t }) (set-of placeFrom places at p) ∙ replaced-is board count sixteen s at (placeFrom p) h
+    replaced-in p h = ap (λ (t : List Place). record { count = count; places = t }) (set-of placeFrom places at p) ∙ replaced-is board count (sixteen long) s at (placeFrom p) h

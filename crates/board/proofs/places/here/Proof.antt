@@ -12,13 +12,13 @@ array-copy-out-p : tie.Need-array-copy-out-p
 array-copy-out-p c = search needs
 
 returns : tie.Need-returns
-returns c = let a = c .before .before .before .before .args in stands-here (a .t1) (a .count) (a .image) (a .at) (omega arith) (c .before .before .before .before .pre .1) (omega arith) (c .if2 .taken)
+returns c = stands-here (c .before .before .before .before .pre .1) (omega arith) (omega arith) (c .if2 .taken)
 
 returns-2 : tie.Need-returns-2
-returns-2 c = let a = c .before .before .before .before .args in absent-here (a .t1) (a .count) (a .image) (a .at) (omega arith) (c .before .before .before .before .pre .1) (c .before .before .before .before .pre .0 .1) (omega arith) (c .if2 .left)
+returns-2 c = absent-here (c .before .before .before .before .pre .1) (omega arith) (c .before .before .before .before .pre .0 .1) (omega arith) (c .if2 .left)
 
 returns-3 : tie.Need-returns-3
-returns-3 c = let a = c .before .args in absent-last (a .t1) (a .count) (a .image) (a .at) (omega arith) (c .before .pre .1) (c .if1 .left)
+returns-3 c = absent-last (c .before .pre .1) (omega arith) (c .if1 .left)
 
 pub here-spec : {M : Type 1} → statement M
 here-spec = tie.close (tie.spec mul-p array-copy-out-p returns returns-2 returns-3)

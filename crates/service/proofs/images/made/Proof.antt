@@ -5,12 +5,13 @@ use mathlib.Core.Bool.{false}
 use mathlib.Core.List.{List, _∷_, _++_, map}
 use Prim.Native.Nat.{_+_}
 use native.Mathlib.Omega.{arith}
-use lib.ListN.{length, take, drop, length-map}
+use lib.ListN.{take, drop}
 use Rattle.board.specs.declared.Place.{Place}
 use Rattle.board.specs.Board.{isAbsent, holding}
 use Rattle.board.proofs.Makings.{found, kept, full, put-in-fits, taken-out, replaced}
 use Rattle.service.specs.Memory.{placeFrom}
 use Rattle.service.proofs.Standing.{placed-in}
+use Rattle.service.proofs.Settled.{sixteen}
 use Rattle.service.proofs.images.made.Statement.{statement}
 use Rattle.service.proofs.images.made.Tie as tie
 
@@ -23,20 +24,17 @@ absent-requires-2 c κs = search needs
 returns : tie.Need-returns
 returns c =
     let a = c .before .before .before .before .args in
-    let n : length (map placeFrom (a .places)) ≡ 16 = rw (length-map (a .places) placeFrom) (omega arith) in
-    kept (map placeFrom (a .places)) (a .count) (a .image) (a .at) (a .old) (c .before .before .before .before .pre .0) n (a .new) (sym (c .before .absent2 .ensures) ∙ c .if2 .taken) (sym (c .before .before .before .absent .ensures) ∙ c .before .before .if1 .taken)
+    kept (c .before .before .before .before .pre .0) (sixteen (a .places) (omega arith)) (a .new) (sym (c .before .absent2 .ensures) ∙ c .if2 .taken) (sym (c .before .before .before .absent .ensures) ∙ c .before .before .if1 .taken)
 
 taken-out-requires : tie.Need-taken-out-requires
 taken-out-requires c κs =
     let a = c .before .before .before .before .args in
-    let n : length (map placeFrom (a .places)) ≡ 16 = rw (length-map (a .places) placeFrom) (omega arith) in
-    (c .before .before .before .before .pre .0 .whole, found (map placeFrom (a .places)) (a .count) (a .image) (a .at) (a .old) (c .before .before .before .before .pre .0) n (sym (c .before .absent2 .ensures) ∙ c .if2 .left) .0)
+    (c .before .before .before .before .pre .0 .whole, found (c .before .before .before .before .pre .0) (sixteen (a .places) (omega arith)) (sym (c .before .absent2 .ensures) ∙ c .if2 .left) .0)
 
 returns-2 : tie.Need-returns-2
 returns-2 c =
     let a = c .before .before .before .before .before .args in
-    let n : length (map placeFrom (a .places)) ≡ 16 = rw (length-map (a .places) placeFrom) (omega arith) in
-    c .taken-out .ensures ∙ taken-out (map placeFrom (a .places)) (a .count) (a .image) (a .at) (a .old) (c .before .before .before .before .before .pre .0) n (a .new) (sym (c .before .before .absent2 .ensures) ∙ c .before .if2 .left) (sym (c .before .before .before .before .absent .ensures) ∙ c .before .before .before .if1 .taken)
+    c .taken-out .ensures ∙ taken-out (c .before .before .before .before .before .pre .0) (sixteen (a .places) (omega arith)) (a .new) (sym (c .before .before .absent2 .ensures) ∙ c .before .if2 .left) (sym (c .before .before .before .before .absent .ensures) ∙ c .before .before .before .if1 .taken)
 
 place-memory-requires : tie.Need-place-memory-requires
 place-memory-requires c κs = search needs
@@ -47,8 +45,7 @@ absent-requires-3 c κs = search needs
 returns-3 : tie.Need-returns-3
 returns-3 c =
     let a = c .before .before .before .before .before .before .args in
-    let n : length (map placeFrom (a .places)) ≡ 16 = rw (length-map (a .places) placeFrom) (omega arith) in
-    full (map placeFrom (a .places)) (a .count) (a .image) (a .at) (a .old) (c .before .before .before .before .before .before .pre .0) n (a .new) (sym (c .before .before .absent3 .ensures) ∙ c .before .if3 .taken) (sym (c .before .before .before .before .before .absent .ensures) ∙ c .before .before .before .before .if1 .left) (c .if4 .taken)
+    full (c .before .before .before .before .before .before .pre .0) (sixteen (a .places) (omega arith)) (a .new) (sym (c .before .before .absent3 .ensures) ∙ c .before .if3 .taken) (sym (c .before .before .before .before .before .absent .ensures) ∙ c .before .before .before .before .if1 .left) (c .if4 .taken)
 
 put-in-requires : tie.Need-put-in-requires
 put-in-requires c κs = search needs
@@ -56,30 +53,27 @@ put-in-requires c κs = search needs
 returns-4 : tie.Need-returns-4
 returns-4 c =
     let a = c .before .before .before .before .before .before .before .args in
-    let n : length (map placeFrom (a .places)) ≡ 16 = rw (length-map (a .places) placeFrom) (omega arith) in
     let l : List Place = take (a .count) (map placeFrom (a .places)) in
     let some : isAbsent (a .new) ≡ false = sym (c .before .before .before .before .before .before .absent .ensures) ∙ c .before .before .before .before .before .if1 .left in
     let own : placeFrom (c .before .before .before .before .place-memory .result) ≡ record { image = a .image; stand = a .new } = placed-in _ (a .image) (a .new) (c .before .before .before .before .place-memory .ensures) (c .before .before .before .before .before .before .before .pre .1 some) in
     c .put-in .ensures
     ∙ ap (λ (q : Place). holding (take (a .at) l ++ (q ∷ drop (a .at) l))) own
-    ∙ put-in-fits (map placeFrom (a .places)) (a .count) (a .image) (a .at) (a .old) (c .before .before .before .before .before .before .before .pre .0) n (a .new) (sym (c .before .before .before .absent3 .ensures) ∙ c .before .before .if3 .taken) some (c .before .if4 .left)
+    ∙ put-in-fits (c .before .before .before .before .before .before .before .pre .0) (sixteen (a .places) (omega arith)) (a .new) (sym (c .before .before .before .absent3 .ensures) ∙ c .before .before .if3 .taken) some (c .before .if4 .left)
 
 replaced-requires : tie.Need-replaced-requires
 replaced-requires c κs =
     let a = c .before .before .before .before .before .args in
-    let n : length (map placeFrom (a .places)) ≡ 16 = rw (length-map (a .places) placeFrom) (omega arith) in
-    (c .before .before .before .before .before .pre .0 .whole, found (map placeFrom (a .places)) (a .count) (a .image) (a .at) (a .old) (c .before .before .before .before .before .pre .0) n (sym (c .before .absent3 .ensures) ∙ c .if3 .left) .0)
+    (c .before .before .before .before .before .pre .0 .whole, found (c .before .before .before .before .before .pre .0) (sixteen (a .places) (omega arith)) (sym (c .before .absent3 .ensures) ∙ c .if3 .left) .0)
 
 returns-5 : tie.Need-returns-5
 returns-5 c =
     let a = c .before .before .before .before .before .before .args in
-    let n : length (map placeFrom (a .places)) ≡ 16 = rw (length-map (a .places) placeFrom) (omega arith) in
     let l : List Place = take (a .count) (map placeFrom (a .places)) in
     let some : isAbsent (a .new) ≡ false = sym (c .before .before .before .before .before .absent .ensures) ∙ c .before .before .before .before .if1 .left in
     let own : placeFrom (c .before .before .before .place-memory .result) ≡ record { image = a .image; stand = a .new } = placed-in _ (a .image) (a .new) (c .before .before .before .place-memory .ensures) (c .before .before .before .before .before .before .pre .1 some) in
     c .replaced .ensures
     ∙ ap (λ (q : Place). holding (take (a .at) l ++ (q ∷ drop (a .at + 1) l))) own
-    ∙ replaced (map placeFrom (a .places)) (a .count) (a .image) (a .at) (a .old) (c .before .before .before .before .before .before .pre .0) n (a .new) (sym (c .before .before .absent3 .ensures) ∙ c .before .if3 .left) some
+    ∙ replaced (c .before .before .before .before .before .before .pre .0) (sixteen (a .places) (omega arith)) (a .new) (sym (c .before .before .absent3 .ensures) ∙ c .before .if3 .left) some
 
 pub made-spec : {M : Type 1} → statement M
 made-spec =
