@@ -1,9 +1,9 @@
 -- Numbers that are an order's, and what the order of any three numbers tells of them. Assumes nothing.
-use mathlib.Core.Path.{_≡_, refl, sym, subst, _∙_}
+use mathlib.Core.Path.{_≡_, refl, sym, ap₂, subst, _∙_}
 use mathlib.Core.Bool.{Bool, true, false, cond, _&&_, and-false, true≢false}
 use Prim.Native.Nat.{ℕ, _+_, _*_, _≤_, _<_}
 use native.Mathlib.Omega.{arith}
-use borrow.Author.Tests.{leb-true, eqb-true, eq-eqb, ne-eqb}
+use borrow.Author.Tests.{leb-true, le-leb, eqb-true, eq-eqb, ne-eqb}
 use lib.Dec.{leb, eqb}
 use Rattle.lists.proofs.Bools.{false-unless, and-left, and-right}
 use Rattle.orders.specs.declared.Order.the-variants.{Publish}
@@ -56,28 +56,29 @@ module _ (kind image share : ℕ) where
       go true f = by-form kind share f (λ k s. sameOrder (orderOf k image s) (Publish 0 0) ≡ zeros k image s) published refl refl refl
       go false f = none (zeros kind image share)
 
--- ---- a place's bytes but its stamp's are zero where their number is
+-- ---- the two as one number: 2, 3 or 4 of an order that is no publish
 
-pub all-zero : (image source kind share : ℕ) → eqb (image + 4294967296 * source + 1099511627776 * kind + 281474976710656 * share) 0 ≡ (eqb source 0 && zeros kind image share)
-all-zero image source kind share = go (eqb number 0) refl
-  where
-    number : ℕ
-    number = image + 4294967296 * source + 1099511627776 * kind + 281474976710656 * share
+module _ (kind share : ℕ) where
+  abbrev alone : Bool
+  alone = leb 2 (kind + 256 * share) && leb (kind + 256 * share) 4
 
-    go : (b : Bool) → eqb number 0 ≡ b → b ≡ (eqb source 0 && zeros kind image share)
-    go true e =
-        let none : number ≡ 0 = eqb-true _ _ e in
-        let i : image ≡ 0 = omega arith in
-        let s : source ≡ 0 = omega arith in
-        let k : kind ≡ 0 = omega arith in
-        let h : share ≡ 0 = omega arith in
-        rw (i, s, k, h) refl
-    go false e =
-        sym (false-unless (eqb source 0 && zeros kind image share) (λ q.
-        let z = and-right (eqb source 0) (zeros kind image share) q in
-        let s : source ≡ 0 = eqb-true _ _ (and-left (eqb source 0) (zeros kind image share) q) in
-        let h : share ≡ 0 = eqb-true _ _ (and-right (eqb kind 0 && eqb image 0) (eqb share 0) z) in
-        let k : kind ≡ 0 = eqb-true _ _ (and-left (eqb kind 0) (eqb image 0) (and-left (eqb kind 0 && eqb image 0) (eqb share 0) z)) in
-        let i : image ≡ 0 = eqb-true _ _ (and-right (eqb kind 0) (eqb image 0) (and-left (eqb kind 0 && eqb image 0) (eqb share 0) z)) in
-        let none : number ≡ 0 = omega arith in
-        true≢false (sym (eq-eqb _ _ none) ∙ e)))
+  pub others : alone ≡ true → true ≡ formed kind share
+  others e =
+      let low : 2 ≤ kind + 256 * share = leb-true _ _ (and-left (leb 2 (kind + 256 * share)) (leb (kind + 256 * share) 4) e) in
+      let high : kind + 256 * share ≤ 4 = leb-true _ _ (and-right (leb 2 (kind + 256 * share)) (leb (kind + 256 * share) 4) e) in
+      let none : share ≡ 0 = omega arith in
+      rw (ne-eqb kind 1 (λ x. omega arith), le-leb 1 kind (omega arith), le-leb kind 4 (omega arith), eq-eqb share 0 none) refl
+
+  pub publishes : alone ≡ false → (eqb kind 1 && isShare share) ≡ formed kind share
+  publishes not-alone = go (eqb kind 1) refl
+    where
+      go : (t : Bool) → eqb kind 1 ≡ t → (t && isShare share) ≡ cond t (isShare share) (isKind kind && eqb share 0)
+      go true e = refl
+      go false e =
+          sym (false-unless (isKind kind && eqb share 0) (λ q.
+          let k = and-left (isKind kind) (eqb share 0) q in
+          let low : 1 ≤ kind = leb-true _ _ (and-left (leb 1 kind) (leb kind 4) k) in
+          let high : kind ≤ 4 = leb-true _ _ (and-right (leb 1 kind) (leb kind 4) k) in
+          let none : share ≡ 0 = eqb-true _ _ (and-right (isKind kind) (eqb share 0) q) in
+          let other : kind ≡ 1 → ⊥ = λ x. true≢false (sym (eq-eqb kind 1 x) ∙ e) in
+          true≢false (sym (ap₂ _&&_ (le-leb 2 (kind + 256 * share) (omega (arith, other))) (le-leb (kind + 256 * share) 4 (omega arith))) ∙ not-alone)))

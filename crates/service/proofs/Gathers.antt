@@ -1,39 +1,17 @@
 -- A loop that gathers the bits of every place from n on into one number, which is 0 just where each place passes a test. Assumes nothing.
-use mathlib.Core.Path.{_≡_, refl, sym, ap, _∙_, subst}
-use mathlib.Core.Bool.{Bool, true, false, _&&_, and-assoc, true≢false}
+use mathlib.Core.Path.{_≡_, sym, ap, _∙_, subst}
+use mathlib.Core.Bool.{Bool, _&&_, and-assoc}
 use mathlib.Core.List.{List}
 use Prim.Native.Nat.{ℕ, _+_, _<_}
-use native.Mathlib.Omega.{arith}
-use borrow.Author.Tests.{eqb-true, eq-eqb}
 use lib.Dec.{eqb}
 use lib.ListN.{length, getD}
-use lib.Bits.{bitOr, or-add-and, and-le-l, and-le-r}
-use Rattle.lists.proofs.Bools.{false-unless, and-left, and-right}
+use lib.Bits.{bitOr}
 use Rattle.lists.proofs.Walks.{Tested, tested-turn}
 use Rattle.service.specs.declared.HeldMemory.{HeldMemory}
 use Rattle.service.specs.Memory.{zeros}
 use Rattle.service.specs.Inside.{unusedIn, none}
 use Rattle.service.proofs.Forms.{from-blank}
-
--- a number gathered of two is 0 just where both are
-or-zero : (a b : ℕ) → eqb (bitOr a b) 0 ≡ (eqb a 0 && eqb b 0)
-or-zero a b = go (eqb (bitOr a b) 0) refl
-  where
-    go : (t : Bool) → eqb (bitOr a b) 0 ≡ t → t ≡ (eqb a 0 && eqb b 0)
-    go true e =
-        let none : bitOr a b ≡ 0 = eqb-true _ _ e in
-        let sum = or-add-and a b in
-        let left = and-le-l a b in
-        let right = and-le-r a b in
-        let x : a ≡ 0 = omega (arith, none, sum, left, right) in
-        let y : b ≡ 0 = omega (arith, none, sum, left, right) in
-        rw (x, y) refl
-    go false e =
-        sym (false-unless (eqb a 0 && eqb b 0) (λ q.
-        let x : a ≡ 0 = eqb-true _ _ (and-left (eqb a 0) (eqb b 0) q) in
-        let y : b ≡ 0 = eqb-true _ _ (and-right (eqb a 0) (eqb b 0) q) in
-        let none : bitOr a b ≡ 0 = rw (x, y) refl in
-        true≢false (sym (eq-eqb _ _ none) ∙ e)))
+use Rattle.service.proofs.Zeros.{or-zero}
 
 -- the place i is two numbers, a and b, and passes where both are 0
 gather-turn : {A : Type 0} {p : A → Bool} {l : List A} {n i : ℕ} (z : A) (bits a b : ℕ) → Tested p l n (eqb bits 0) i → i < length l → (eqb a 0 && eqb b 0) ≡ p (getD l i z)

@@ -1,4 +1,5 @@
 -- What the proofs of several functions use, and the laws for callers: Back, Through, One.
+mod Zeros
 mod Forms
 mod Converts
 mod Maps

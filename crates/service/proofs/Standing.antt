@@ -1,6 +1,6 @@
 -- What stands in a place of a board's flat memory: what its numbers tell of it, and what comes back. Assumes nothing.
 use mathlib.Core.Path.{_≡_, refl, sym, ap, ap₂, _∙_}
-use mathlib.Core.Bool.{Bool, true, false, not, cond, _&&_, _||_, and-true, and-false, true≢false}
+use mathlib.Core.Bool.{Bool, true, false, not, cond, _&&_, _||_, and-true, and-false, and-assoc, true≢false}
 use mathlib.Core.Logic.{_⊎_, inl, inr}
 use Prim.Native.Nat.{ℕ, zero, suc, _+_, _≤_, _<_}
 use native.Mathlib.Omega.{arith}
@@ -14,6 +14,7 @@ use Rattle.board.specs.Board.{standFits, placeFits, isAbsent, isBlank}
 use Rattle.service.specs.declared.PlaceMemory.{PlaceMemory}
 use Rattle.service.specs.Memory.{standFrom, placeFrom, standNumber, standShare, placeMemory}
 use Rattle.service.specs.Inside.{blankIn}
+use Rattle.service.proofs.Zeros.{sum-zero}
 
 module _ (stand share : ℕ) where
   -- by which of the three tests the numbers pass
@@ -90,23 +91,9 @@ pub placed-in : (p : PlaceMemory) (image : ℕ) (stand : Stand) → p ≡ placeM
 placed-in p image stand e f = ap placeFrom e ∙ place-back image stand f
 
 -- an unused place has three zeros, and they are three where their sum is
-sum-zero : (a b : ℕ) → eqb (a + b) 0 ≡ (eqb a 0 && eqb b 0)
-sum-zero a b = go (eqb a 0) refl
-  where
-    go : (t : Bool) → eqb a 0 ≡ t → eqb (a + b) 0 ≡ (t && eqb b 0)
-    go true e =
-        let none : a ≡ 0 = eqb-true a 0 e in
-        let rest : a + b ≡ b = omega arith in
-        ap (λ (k : ℕ). eqb k 0) rest
-    go false e = ne-eqb (a + b) 0 (λ q. let none : a ≡ 0 = omega arith in true≢false (sym (eq-eqb a 0 none) ∙ e))
-
 pub blank-sum : (p : PlaceMemory) → eqb (p .image + p .stand + p .share) 0 ≡ blankIn p
 blank-sum p =
     sum-zero (p .image + p .stand) (p .share)
     ∙ ap (λ (b : Bool). b && eqb (p .share) 0) (sum-zero (p .image) (p .stand))
-    ∙ turned (eqb (p .image) 0)
+    ∙ and-assoc (eqb (p .image) 0) (eqb (p .stand) 0) (eqb (p .share) 0)
     ∙ ap (λ (b : Bool). eqb (p .image) 0 && b) (sym (from-absent (p .stand) (p .share)))
-  where
-    turned : (a : Bool) → ((a && eqb (p .stand) 0) && eqb (p .share) 0) ≡ (a && (eqb (p .stand) 0 && eqb (p .share) 0))
-    turned true = refl
-    turned false = refl

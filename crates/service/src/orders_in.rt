@@ -4,14 +4,15 @@ use orders::order_of;
 ghost use mathlib.Core.Path.{_≡_};
 ghost use Rattle.service.specs.Memory.{formed, zeros, orderFrom};
 
-// Whether kind and share are some order's.
+// Whether kind and share are some order's. As one number they are 2, 3 or 4 of a halt, a resume and a withdrawal, which is one test for the two.
 pub(crate) fn is_formed(kind: u8, share: u16) -> bool
     ensures { λ r. ⌜ r ≡ formed kind share ⌝ }
 {
-    if kind == 1 {
-        return (1 <= share) & (share <= 100);
+    let both = (kind as u32) + 256 * (share as u32);
+    if (2 <= both) & (both <= 4) {
+        return true;
     }
-    (1 <= kind) & (kind <= 4) & (share == 0)
+    (kind == 1) & (1 <= share) & (share <= 100)
 }
 
 // Whether they are all zero, as in an unused place.

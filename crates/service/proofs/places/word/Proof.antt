@@ -1,6 +1,6 @@
 -- A sum of numbers, each with a factor, is zero where they all are. Assumes nothing.
 use borrow.Author.Needs.{needs}
-use Rattle.service.proofs.Forms.{all-zero}
+use Rattle.service.proofs.Zeros.{word-zero}
 use Rattle.service.proofs.places.word.Statement.{statement}
 use Rattle.service.proofs.places.word.Tie as tie
 
@@ -35,7 +35,7 @@ add-result-3 : tie.Need-add-result-3
 add-result-3 c = search needs
 
 returns : tie.Need-returns
-returns c = let e = c .before .before .before .before .args .e in all-zero (e .image) (e .source) (e .kind) (e .share)
+returns c = let e = c .before .before .before .before .args .e in word-zero (e .image) (e .source) (e .kind) (e .share)
 
 pub word-spec : {M : Type 1} → statement M
 word-spec =
