@@ -11,6 +11,7 @@ mod Settled
 mod Prefixes
 mod Flats
 mod Gathers
+mod Owns
 mod Sounds
 mod Sizes
 pub mod Through

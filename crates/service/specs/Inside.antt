@@ -1,7 +1,8 @@
 -- Notions that only private contracts cite. Assumes nothing.
-use mathlib.Core.Bool.{Bool, not}
+use mathlib.Core.Bool.{Bool, not, cond, _&&_, _||_}
 use mathlib.Core.List.{List, map}
-use Prim.Native.Nat.{ℕ}
+use Prim.Native.Nat.{ℕ, _+_, _-_}
+use lib.Dec.{leb, ltb, eqb}
 use Rattle.host.specs.declared.Frame.{Frame}
 use Rattle.host.specs.declared.Held.{Held}
 use Rattle.host.specs.declared.Host.{Host}
@@ -50,6 +51,14 @@ beforeIn x e = before (heldFrom x) (heldFrom e)
 
 abbrev pub startedIn : ℕ → ℕ → ℕ → HeldMemory → Bool
 startedIn own started newest e = ownStarted own started newest (heldFrom e)
+
+-- one past the stamp of the last order of the host's own, 0 where there is none: at this order, from what it was before it
+abbrev pub pastOwn : ℕ → HeldMemory → ℕ → ℕ
+pastOwn own e end = cond (eqb (e .source) own) (e .stamp .0 + 1) end
+
+-- that last order was started
+abbrev pub endStarted : ℕ → ℕ → ℕ → Bool
+endStarted started newest end = eqb end 0 || ltb 0 started && leb (end - 1) newest
 
 abbrev pub unusedIn : HeldMemory → Bool
 unusedIn e = isNoHeld (heldFrom e)

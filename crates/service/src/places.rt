@@ -4,12 +4,17 @@ use crate::orders_in::is_formed;
 use clock::Reading;
 use clock::is_stamp;
 use clock::reached;
+use host::Frame;
 use host::Held;
+use host::newest;
 ghost use mathlib.Core.Path.{_≡_};
 ghost use mathlib.Core.Bool.{_&&_};
+ghost use Prim.Native.Nat.{_≤_};
 ghost use lib.Dec.{eqb};
+ghost use Rattle.clock.specs.Clock.{largestStamp};
+ghost use Rattle.host.specs.State.{bare, lastStart};
 ghost use Rattle.service.specs.Memory.{zeros};
-ghost use Rattle.service.specs.Inside.{beforeIn, fitsIn, startedIn, namedIn, dueIn};
+ghost use Rattle.service.specs.Inside.{beforeIn, fitsIn, pastOwn, endStarted, namedIn, dueIn};
 
 // Whether its stamp, its source and its order are in range.
 pub(crate) fn is_fit(e: HeldMemory, hosts: u8) -> bool
@@ -34,14 +39,27 @@ pub(crate) fn is_before(x: HeldMemory, e: HeldMemory) -> bool
     (x.stamp.0 == e.stamp.0) & (x.source < e.source)
 }
 
-// Whether it is not the host's own, or was started.
-pub(crate) fn is_started(e: HeldMemory, own: u8, started: usize, newest: Reading) -> bool
-    ensures { λ r. ⌜ r ≡ startedIn own started (newest .0) e ⌝ }
+// One past the stamp of the last order of the host's own, where `end` was so for those before this one: 0 where there is none.
+pub(crate) fn past_own(e: HeldMemory, own: u8, end: u64) -> u64
+    requires { ⌜ e .stamp .0 ≤ largestStamp ⌝ }
+    ensures { λ r. ⌜ r ≡ pastOwn own e end ⌝ }
 {
-    if e.source != own {
+    if e.source == own {
+        return e.stamp.0 + 1;
+    }
+    end
+}
+
+// Whether the last order of the host's own, if there is one, was started.
+pub(crate) fn is_started(frame: Frame, end: u64) -> bool
+    ensures { λ r. ⌜ r ≡ endStarted (frame .started) (lastStart (bare frame)) end ⌝ }
+{
+    if end == 0 {
         return true;
     }
-    (0 < started) & (e.stamp.0 <= newest.0)
+    let starts = frame.starts;
+    let last = newest(starts, frame.started);
+    (0 < frame.started) & (end - 1 <= last.0)
 }
 
 // Its bytes but the stamp's as one number, in their order in memory, so that to read it is to load them.

@@ -5,12 +5,12 @@ use crate::places::has_name;
 use crate::places::is_before;
 use crate::places::is_fit;
 use crate::places::is_started;
+use crate::places::past_own;
 use crate::places::word;
 use host::Frame;
 use host::Held;
 use host::Seen;
 use host::is_framed;
-use host::newest;
 use orders::same;
 ghost use mathlib.Core.Path.{_≡_};
 ghost use Prim.Native.Nat.{_≤_};
@@ -19,7 +19,8 @@ ghost use Rattle.lists.specs.Lists.{any};
 ghost use Rattle.host.specs.State.{sound};
 ghost use Rattle.service.specs.Inside.{stateIn, namedIn, sameIn, otherIn};
 
-// Whether a frame and a flat history are those of a sound state. The history is walked here, so that it is copied once less; its unused places are gathered into one number.
+// Whether a frame and a flat history are those of a sound state. The history is walked here, so that it is copied once less. Its stamps rise, so of the host's own orders the last tells of
+// all; its unused places are gathered into one number.
 pub(crate) fn is_sound(frame: Frame, history: [HeldMemory; 32]) -> bool
     ensures { λ r. ⌜ r ≡ sound (stateIn frame history) ⌝ }
 {
@@ -31,9 +32,7 @@ pub(crate) fn is_sound(frame: Frame, history: [HeldMemory; 32]) -> bool
         return false;
     }
     let plan = frame.plan;
-    let starts = frame.starts;
-    let started = frame.started;
-    let last = newest(starts, started);
+    let mut own_end = 0;
     let mut previous = history[0];
     let mut i = 0;
     while i < held {
@@ -44,11 +43,12 @@ pub(crate) fn is_sound(frame: Frame, history: [HeldMemory; 32]) -> bool
         if !((i == 0) | is_before(previous, e)) {
             return false;
         }
-        if !is_started(e, frame.own, started, last) {
-            return false;
-        }
+        own_end = past_own(e, frame.own, own_end);
         previous = e;
         i += 1;
+    }
+    if !is_started(frame, own_end) {
+        return false;
     }
     let mut bits: u64 = 0;
     while i < 32 {
