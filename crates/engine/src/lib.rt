@@ -42,7 +42,7 @@ pub struct Post {
 }
 
 // A station after a call of its host, the links to send on, and the number of a refusal, or 0.
-pub struct Acted {
+pub(crate) struct Acted {
     pub station: Station,
     pub links: u16,
     pub refusal: u8,
