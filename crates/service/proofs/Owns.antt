@@ -5,7 +5,7 @@ use mathlib.Core.List.{List}
 use mathlib.Core.Logic.{_⊎_, inl, inr}
 use Prim.Native.Nat.{ℕ, _+_, _-_, _≤_, _<_}
 use native.Mathlib.Omega.{arith}
-use borrow.Author.Tests.{ltb-true, leb-true, le-leb, eqb-true, ne-eqb, not-false}
+use borrow.Author.Tests.{leb-true, le-leb, eqb-true, ne-eqb, not-false}
 use lib.Dec.{leb, ltb, eqb}
 use lib.ListN.{length, take, getD}
 use Rattle.lists.specs.Lists.{all}
@@ -14,16 +14,17 @@ use Rattle.lists.proofs.Loops.{first-next, first-none, all-turn, all-end}
 use Rattle.lists.proofs.Walks.{Tested, tested-start}
 use Rattle.clock.specs.Clock.{largestStamp}
 use Rattle.orders.specs.Orders.{shareFits}
+use Rattle.host.proofs.Names.{Goes, before-is}
 use Rattle.service.specs.declared.HeldMemory.{HeldMemory}
-use Rattle.service.specs.Memory.{orderFrom}
+use Rattle.service.specs.Memory.{heldFrom, orderFrom}
 use Rattle.service.specs.Inside.{none, fitsIn, beforeIn, startedIn, pastOwn, endStarted}
 
 before-stamp : (x e : HeldMemory) → beforeIn x e ≡ true → x .stamp .0 ≤ e .stamp .0
-before-stamp x e t = go (or-cases (ltb (x .stamp .0) (e .stamp .0)) (eqb (x .stamp .0) (e .stamp .0) && ltb (x .source) (e .source)) t)
+before-stamp x e t = go (before-is (heldFrom x) (heldFrom e) t)
   where
-    go : (ltb (x .stamp .0) (e .stamp .0) ≡ true) ⊎ ((eqb (x .stamp .0) (e .stamp .0) && ltb (x .source) (e .source)) ≡ true) → x .stamp .0 ≤ e .stamp .0
-    go (inl q) = let h : x .stamp .0 < e .stamp .0 = ltb-true _ _ q in omega arith
-    go (inr q) = let h : x .stamp .0 ≡ e .stamp .0 = eqb-true _ _ (and-left (eqb (x .stamp .0) (e .stamp .0)) (ltb (x .source) (e .source)) q) in omega arith
+    go : Goes (heldFrom x) (heldFrom e) → x .stamp .0 ≤ e .stamp .0
+    go (inl l) = omega arith
+    go (inr s) = let same : x .stamp .0 ≡ e .stamp .0 = s .0 in omega arith
 
 pub fit-stamp : (hosts : ℕ) (e : HeldMemory) → fitsIn hosts e ≡ true → e .stamp .0 ≤ largestStamp
 fit-stamp hosts e t =
