@@ -7,6 +7,7 @@ use mathlib.Core.List.{List, [], _∷_, _++_, map}
 use Prim.Native.Nat.{ℕ, _+_, _≤_, _<_}
 use native.Mathlib.Omega.{arith}
 use lib.ListN.{length, length-append, length-map}
+use lib.Seq.{length-take-le}
 use Rattle.lists.specs.Lists.{any, insert, rising}
 use Rattle.lists.specs.Members.{In, All, Distinct}
 use Rattle.lists.proofs.Listed.{in-insert, member-none, none-member, all-member}
@@ -19,6 +20,7 @@ use Rattle.host.specs.Make.{cleared}
 use Rattle.host.specs.State.{Sized, heldOf, sameName, before, sound}
 use Rattle.host.specs.Tick.{dueOf, waitingOf}
 use Rattle.host.specs.declared.Held.{Held}
+use Rattle.host.proofs.Facts.{sound-is}
 use Rattle.host.proofs.Names.{name-is, is-name, before-is, before-trans, before-other, before-total, Goes}
 use Rattle.schedule.specs.declared.Schedule.{Schedule}
 use Rattle.engine.specs.declared.Delivery.{Delivery}
@@ -86,6 +88,14 @@ module _ (s : Schedule) where
       let out : length (gone a) ≡ length (listOf (a .log)) = length-map (listOf (a .log)) (λ (d : Delivery). d .what) in
       let counted : a .log .count ≡ length (listOf (a .log)) = ap (λ (l : Log). l .count) (k .set-out) in
       let split : length (dueOf (a .host) (u .0)) + length (waitingOf (a .host) (u .0)) ≡ length (heldOf (a .host)) = keep-both _ (heldOf (a .host)) in
+      omega arith
+
+  pub held-kept : (p : ℕ) (a : Station) → Kept s p a → s .«start_count» ≤ 16 → a .host .held ≤ 16
+  held-kept p a k most =
+      let all : length (taken a) ≤ s .«start_count» = few (taken a) (k .rise) (k .named) in
+      let both : length (taken a) ≡ length (gone a) + length (heldOf (a .host)) = length-append (gone a) (heldOf (a .host)) in
+      let fits = sound-is (a .host) (k .sound) .held in
+      let whole : length (heldOf (a .host)) ≡ a .host .held = length-take-le (a .host .held) (a .host .history) (omega (arith, k .sized .history)) in
       omega arith
 
   pub count-kept : (p : ℕ) (a : Station) → Kept s p a → s .«start_count» ≤ 16 → a .log .count ≤ 16

@@ -45,14 +45,14 @@ last-most h u c l = after-call (λ (g : Host). g .last .0 ≤ u .0) (refusal h (
     go (calls.ticks room) = le-refl (u .0)
 
 -- what holds at each place holds after one is set, if it holds of the new one
-set-each : {A : Type 0} (P : ℕ → A → Type 0) (l : List A) (q : ℕ) (a d : A) → ((p : ℕ) → P p (getD l p d)) → P q a → (p : ℕ) → P p (getD (set l q a) p d)
+pub set-each : {A : Type 0} (P : ℕ → A → Type 0) (l : List A) (q : ℕ) (a d : A) → ((p : ℕ) → P p (getD l p d)) → P q a → (p : ℕ) → P p (getD (set l q a) p d)
 set-each P [] q a d f g p = f p
 set-each P (x ∷ l) zero a d f g zero = g
 set-each P (x ∷ l) zero a d f g (suc p) = f (suc p)
 set-each P (x ∷ l) (suc q) a d f g zero = f zero
 set-each P (x ∷ l) (suc q) a d f g (suc p) = set-each (λ i b. P (suc i) b) l q a d (λ i. f (suc i)) g p
 
-abbrev Behind : Schedule → Tick → List Station → Type 0
+abbrev pub Behind : Schedule → Tick → List Station → Type 0
 Behind s t l = (p : ℕ) → getD l p noStation .host .last .0 ≤ clock s t p .0
 
 module _ (s : Schedule) where
@@ -63,24 +63,24 @@ module _ (s : Schedule) where
       set-each (λ (p : ℕ) (a : Station). a .host .last .0 ≤ clock s t p .0) l q (record { host = after (getD l q noStation .host) (clock s t q) c; log = log }) noStation f
       (last-most (getD l q noStation .host) (clock s t q) c (f q))
 
-  tick-behind : (t : Tick) (l : List Station) → Behind s t l → Behind s t (inTurn (n (s .plan)) (tickOne s t) l)
+  pub tick-behind : (t : Tick) (l : List Station) → Behind s t l → Behind s t (inTurn (n (s .plan)) (tickOne s t) l)
   tick-behind t l f = keeps (tickOne s t) (λ i k. Behind s t k) (n (s .plan)) l f (λ i k h g. called t k i (calls.ticks 512) _ g)
 
-  arrive-behind : (t : Tick) (c : ℕ) (w : World) → Behind s t (w .stations) → Behind s t (arriveOne s t c w .stations)
+  pub arrive-behind : (t : Tick) (c : ℕ) (w : World) → Behind s t (w .stations) → Behind s t (arriveOne s t c w .stations)
   arrive-behind t c w f = go (arrives t c w)
     where
       go : (b : Bool) → Behind s t (cond b (hand s t c (receiver (s .plan) c) w) w .stations)
       go false = f
       go true = called t (w .stations) (receiver (s .plan) c) (calls.receive (linkOf c) 0 (order s (startOf c))) _ f
 
-  start-behind : (t : Tick) (k : ℕ) (w : World) → Behind s t (w .stations) → Behind s t (startOne s t k w .stations)
+  pub start-behind : (t : Tick) (k : ℕ) (w : World) → Behind s t (w .stations) → Behind s t (startOne s t k w .stations)
   start-behind t k w f = go (eqb (start s k .tick .0) (t .0))
     where
       go : (b : Bool) → Behind s t (cond b (tell s t k (start s k .host) (start s k .order) w) w .stations)
       go false = f
       go true = called t (w .stations) (start s k .host) (calls.start (start s k .order)) _ f
 
-  play-behind : (t : ℕ) (w : World) → Behind s (record { 0 = t }) (w .stations) → Behind s (record { 0 = suc t }) (play s t w .stations)
+  pub play-behind : (t : ℕ) (w : World) → Behind s (record { 0 = t }) (w .stations) → Behind s (record { 0 = suc t }) (play s t w .stations)
   unfolding play
   play-behind t w f p =
       let i : Tick = record { 0 = t } in
@@ -88,7 +88,7 @@ module _ (s : Schedule) where
       let now = keeps (startOne s i) (λ k v. Behind s i (v .stations)) (s .«start_count») (arrived s i (24 * s .«start_count») w) arrives (λ k v h g. start-behind i k v g) p in
       omega arith
 
-  open-behind : Behind s (record { 0 = 0 }) (opening s .stations)
+  pub open-behind : Behind s (record { 0 = 0 }) (opening s .stations)
   unfolding opening
   open-behind p = go (ltb p 8) refl
     where

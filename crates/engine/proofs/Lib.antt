@@ -12,6 +12,7 @@ pub mod Lasts
 pub mod Idle
 pub mod Plays
 pub mod Runs
+pub mod Refused
 pub mod Posted
 pub mod Sends
 pub mod One
