@@ -8,7 +8,7 @@ use Prim.Native.Nat.{ℕ, suc, _+_, _*_, _≤_, _<_}
 use native.Mathlib.Omega.{arith}
 use borrow.Author.Tests.{eqb-true, le-leb, lt-leb, le-ltb}
 use lib.Dec.{leb, ltb, eqb}
-use lib.ListN.{getD, set}
+use lib.ListN.{getD}
 use Rattle.clock.specs.Clock.{largestStamp}
 use Rattle.clock.specs.declared.Tick.{Tick}
 use Rattle.orders.specs.declared.Order.{Order}
