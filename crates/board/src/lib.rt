@@ -1,4 +1,6 @@
 // The release board: which images are offered or halted, and what an order makes of it, by value and over a lent board.
+#![tactic(auto)]
+
 mod lent;
 mod places;
 mod sound;
@@ -16,34 +18,34 @@ use sound::is_sound;
 pub use table::outcome_of;
 
 // What a board says of an image; the number is its share.
-#[derive(Drop)]
+#[derive(Clone, Copy)]
 pub enum Stand {
     Absent,
     Offered(u8),
     Halted(u8),
 }
 
-#[derive(Drop)]
+#[derive(Clone, Copy)]
 pub struct Place {
     pub image: u32,
     pub stand: Stand,
 }
 
 // The first `count` places are in use, in rising image; the others are all zero.
-#[derive(Drop)]
+#[derive(Clone, Copy)]
 pub struct Board {
     pub count: usize,
     pub places: [Place; 16],
 }
 
-#[derive(Drop)]
+#[derive(Clone, Copy)]
 pub enum Answer {
     Done,
     Unsound,
     OutOfRange,
 }
 
-#[derive(Drop)]
+#[derive(Clone, Copy)]
 pub struct Applied {
     pub board: Board,
     pub answer: Answer,

@@ -1,5 +1,7 @@
 // The twelve cells of the board's table, boards that are not sound, a full board, and orders drawn from a fixed seed; a line for each answer.
 // What the lines should be is worked out by checks/board.py, which reads 01 on its own.
+#![tactic(auto)]
+
 mod drawn;
 mod lent;
 mod show;

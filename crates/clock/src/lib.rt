@@ -1,14 +1,16 @@
 // Clock readings and real ticks are never added or compared as if they were one thing: only a host's offset turns one into the other.
+#![tactic(auto)]
+
 ghost use Rattle.std.specs.Prelude.{◌≡◌, ◌+◌, leb};
 ghost use Rattle.clock.specs.Clock.{largest_reading, largest_stamp, shown, showing};
 
 // What a host's clock shows.
 #[repr(C)]
-#[derive(Drop)]
+#[derive(Clone, Copy)]
 pub struct Reading(pub u64);
 
 // Real time.
-#[derive(Drop)]
+#[derive(Clone, Copy)]
 pub struct Tick(pub u64);
 
 pub const LARGEST_READING: u64 = 1_099_511_627_775;
@@ -16,14 +18,14 @@ pub const LARGEST_READING: u64 = 1_099_511_627_775;
 pub const LARGEST_STAMP: u64 = 1_099_511_623_679;
 
 // What a clock shows at a tick.
-#[derive(Drop)]
+#[derive(Clone, Copy)]
 pub enum Shown {
     At(Reading),
     Past,
 }
 
 // The tick at which a clock shows a reading.
-#[derive(Drop)]
+#[derive(Clone, Copy)]
 pub enum Showing {
     At(Tick),
     Never,

@@ -1,4 +1,6 @@
 // The run of a schedule by the hosts' own calls, from any bytes.
+#![tactic(auto)]
+
 mod arriving;
 mod clocks;
 mod opening;
@@ -17,35 +19,35 @@ use host::{Held, Host};
 use schedule::Answer;
 
 // An order delivered, and the reading that the host's clock showed.
-#[derive(Drop)]
+#[derive(Clone, Copy)]
 pub struct Delivery {
     pub at: Reading,
     pub what: Held,
 }
 
 // What a host has delivered, in order: the first `count` of the places.
-#[derive(Drop)]
+#[derive(Clone, Copy)]
 pub struct Log {
     pub count: usize,
     pub entries: [Delivery; 16],
 }
 
 // A host's state, and what it has delivered.
-#[derive(Drop)]
+#[derive(Clone, Copy)]
 pub struct Station {
     pub host: Host,
     pub log: Log,
 }
 
 // The copies: the tick at which each arrives, by start, link and direction, with 0 for none under way; and how many were sent.
-#[derive(Drop)]
+#[derive(Clone, Copy)]
 pub struct Post {
     pub arrivals: [Tick; 384],
     pub copies: usize,
 }
 
 // A station after a call of its host, the links to send on, and the number of a refusal, or 0.
-#[derive(Drop)]
+#[derive(Clone, Copy)]
 pub(crate) struct Acted {
     pub station: Station,
     pub links: u16,
@@ -53,7 +55,7 @@ pub(crate) struct Acted {
 }
 
 // All that changes in a run. The definitions speak of it; the run keeps its parts.
-#[derive(Drop)]
+#[derive(Clone, Copy)]
 pub struct World {
     pub stations: [Station; 8],
     pub post: Post,
@@ -61,7 +63,7 @@ pub struct World {
 }
 
 // What a run leaves: of the 16 starts the first `starts` are there, of the 8 hosts the first `hosts`.
-#[derive(Drop)]
+#[derive(Clone, Copy)]
 pub struct Outcome {
     pub bound: u64, // Δ
     pub hosts: u8, // n
@@ -71,7 +73,7 @@ pub struct Outcome {
     pub copies: usize,
 }
 
-#[derive(Drop)]
+#[derive(Clone, Copy)]
 pub struct Ran {
     pub answer: Answer,
     pub outcome: Outcome,

@@ -1,4 +1,6 @@
 // A host: its state, and the calls that make it, start an order, receive a copy and deliver what is due, by value and over a lent state.
+#![tactic(auto)]
+
 mod checks;
 mod entries;
 mod history;
@@ -27,7 +29,7 @@ pub use starts::{newest, one_more, with_start};
 pub use ticking::{after_tick, tick_answer};
 
 // An order under its name, which is its stamp and its source.
-#[derive(Drop)]
+#[derive(Clone, Copy)]
 pub struct Held {
     pub stamp: Reading, // T
     pub source: u8,
@@ -35,7 +37,7 @@ pub struct Held {
 }
 
 // A host's state. Of the four places for starts the first `started` are used, oldest first; of the 32 of the history the first `held`.
-#[derive(Drop)]
+#[derive(Clone, Copy)]
 pub struct Host {
     pub plan: Plan,
     pub rules: u8,
@@ -50,7 +52,7 @@ pub struct Host {
 }
 
 // A state but for its history.
-#[derive(Drop)]
+#[derive(Clone, Copy)]
 pub struct Frame {
     pub plan: Plan,
     pub rules: u8,
@@ -64,7 +66,7 @@ pub struct Frame {
 }
 
 // What a history holds under an order's name: the same order, another, any.
-#[derive(Drop)]
+#[derive(Clone, Copy)]
 pub struct Seen {
     pub same: bool,
     pub other: bool,
@@ -72,7 +74,7 @@ pub struct Seen {
 }
 
 // Why a call was refused.
-#[derive(Drop)]
+#[derive(Clone, Copy)]
 pub enum Refusal {
     OutOfRange, // 1: a plan number is out of range
     BadLink, // 2: a link end is n or more, a ≥ b, or a pair repeats
@@ -95,39 +97,39 @@ pub enum Refusal {
 }
 
 // Whether a call was refused; the answer to a making.
-#[derive(Drop)]
+#[derive(Clone, Copy)]
 pub enum Verdict {
     Clear,
     Refused(Refusal),
 }
 
 // The answer to a start or a received copy: the links to send it on, bit i for link i of the plan, and the hop to send.
-#[derive(Drop)]
+#[derive(Clone, Copy)]
 pub enum SendAnswer {
     Sent { links: u16, hop: u8 },
     Refused(Refusal),
 }
 
 // The answer to a tick: how many entries were written.
-#[derive(Drop)]
+#[derive(Clone, Copy)]
 pub enum TickAnswer {
     Delivered(usize),
     Refused(Refusal),
 }
 
-#[derive(Drop)]
+#[derive(Clone, Copy)]
 pub struct Made {
     pub host: Host,
     pub answer: Verdict,
 }
 
-#[derive(Drop)]
+#[derive(Clone, Copy)]
 pub struct Acted {
     pub host: Host,
     pub answer: SendAnswer,
 }
 
-#[derive(Drop)]
+#[derive(Clone, Copy)]
 pub struct Ticked {
     pub host: Host,
     pub answer: TickAnswer,

@@ -75,7 +75,7 @@ fn tick_left(host: Host, u: Reading, out: &mut [u8]) -> Host
 }
 
 // What a delivery leaves of the history.
-#[derive(Drop)]
+#[derive(Clone, Copy)]
 pub(crate) struct Rest {
     pub held: usize,
     pub history: [Held; 32],

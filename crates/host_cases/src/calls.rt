@@ -7,7 +7,7 @@ use network::{Link, Plan};
 use orders::{Order, order_of};
 
 // What is asked: 0 make, 1 start, 2 receive, 3 tick; 4 to 15 set a part of the state, and 16 fills the history.
-#[derive(Drop)]
+#[derive(Clone, Copy)]
 pub(crate) struct Row {
     pub call: u8,
     pub u: u64,

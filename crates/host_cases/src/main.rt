@@ -1,4 +1,6 @@
 // A line for the answer to each call, and the state after it: the calls of standard input, and calls drawn from a seed.
+#![tactic(auto)]
+
 mod calls;
 mod drawn;
 mod lent;

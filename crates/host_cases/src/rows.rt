@@ -8,7 +8,7 @@ use host::Host;
 use libc::STDIN_FILENO;
 
 // A line as far as it is read: its numbers, and the place of the one that is being read.
-#[derive(Drop)]
+#[derive(Clone, Copy)]
 struct Line {
     is_comment: bool,
     at: usize,

@@ -1,4 +1,6 @@
 // The message of an order: stamp, source, hop and order, each in a field, by one layout that is written and read.
+#![tactic(auto)]
+
 mod reader;
 mod reading;
 mod writing;
@@ -13,7 +15,7 @@ pub use reader::{Reader, next_number, open, order_bytes, whole};
 pub use reading::{order_part, read};
 pub use writing::write;
 
-#[derive(Drop)]
+#[derive(Clone, Copy)]
 pub struct Message {
     pub stamp: Reading,
     pub source: u8,
@@ -23,7 +25,7 @@ pub struct Message {
 }
 
 // What writing answers: the message's length, or 23, or 22.
-#[derive(Drop)]
+#[derive(Clone, Copy)]
 pub enum Written {
     Length(usize),
     OutOfRange,
@@ -31,7 +33,7 @@ pub enum Written {
 }
 
 // A message that was read, with the place and the size of its order's bytes.
-#[derive(Drop)]
+#[derive(Clone, Copy)]
 pub struct Found {
     pub message: Message,
     pub start: usize,
@@ -39,7 +41,7 @@ pub struct Found {
 }
 
 // What reading answers: the message, or 23, or 30.
-#[derive(Drop)]
+#[derive(Clone, Copy)]
 pub enum Got {
     Message(Found),
     WrongRules,
@@ -47,7 +49,7 @@ pub enum Got {
 }
 
 // What the next field of a reader answers: its number, or its fault.
-#[derive(Drop)]
+#[derive(Clone, Copy)]
 pub enum Number {
     Value(u64),
     Wrong(Fault),

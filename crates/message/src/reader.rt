@@ -6,7 +6,7 @@ ghost use Rattle.message.specs.Reader.{opened, number_says, next_number, next_pl
 use crate::{Got, Number};
 use fields::{Slot, Verdict};
 
-#[derive(Drop)]
+#[derive(Clone, Copy)]
 pub struct Reader<'a> {
     pub message: &'a [u8],
     pub at: usize,
@@ -43,7 +43,7 @@ pub fn order_bytes<'a>(r: Reader<'a>, rules: u8) -> &'a [u8]
 }
 
 // A number, or its fault, and the place after it.
-#[derive(Drop)]
+#[derive(Clone, Copy)]
 struct Taken {
     number: Number,
     place: usize,

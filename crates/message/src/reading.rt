@@ -41,7 +41,7 @@ pub fn order_part(rules: u8, bytes: &[u8]) -> &[u8]
 }
 
 // The first fault, and the place where its field begins; for bytes left over, the first of them.
-#[derive(Drop)]
+#[derive(Clone, Copy)]
 enum Judged {
     Clear,
     Faulty { fault: Fault, place: usize },

@@ -1,4 +1,6 @@
 // Messages written, passed by a reader, damaged, cut, lengthened and read again; what is counted is compared with the file stdout.
+#![tactic(auto)]
+
 mod places;
 mod sweep;
 mod text;
@@ -9,7 +11,7 @@ use clock::Reading;
 use message::{Got, Message, Written};
 use orders::Order;
 
-#[derive(Drop)]
+#[derive(Clone, Copy)]
 struct Case {
     rules: u8,
     message: Message,

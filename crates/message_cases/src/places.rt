@@ -3,7 +3,7 @@ use crate::text;
 use fields::{Fault, Slot};
 use message::{Number, Reader};
 
-#[derive(Drop)]
+#[derive(Clone, Copy)]
 struct Passed {
     number: Number,
     place: usize,

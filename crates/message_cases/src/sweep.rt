@@ -3,7 +3,7 @@ use crate::text;
 use message::{Got, Message, Written};
 
 // Refused 30; read, and written back to the same bytes; neither.
-#[derive(Drop)]
+#[derive(Clone, Copy)]
 pub(crate) struct Tally {
     pub refused: u32,
     pub same: u32,
@@ -11,7 +11,7 @@ pub(crate) struct Tally {
 }
 
 // How many messages came back the same, and sums over bytes.
-#[derive(Drop)]
+#[derive(Clone, Copy)]
 pub(crate) struct Sums {
     pub same: u32,
     pub bytes: u64,

@@ -1,4 +1,6 @@
 // Planning of a network: which plans are refused, and for the others the largest diameter that a fault set leaves, with the bounds made of it.
+#![tactic(auto)]
+
 mod pairs;
 pub mod planning;
 mod proper;
@@ -14,7 +16,7 @@ pub use sets::is_in;
 
 // A link joins two hosts, a < b.
 #[repr(C)]
-#[derive(Drop)]
+#[derive(Clone, Copy)]
 pub struct Link {
     pub a: u8,
     pub b: u8,
@@ -22,7 +24,7 @@ pub struct Link {
 
 // The network, and what it is planned to bear. Of the 12 places the first `link_count` hold links; planning does not look at the others.
 #[repr(C)]
-#[derive(Drop)]
+#[derive(Clone, Copy)]
 pub struct Plan {
     pub hosts: u8, // n
     pub faulty_hosts: u8, // π
@@ -34,7 +36,7 @@ pub struct Plan {
 }
 
 // A fault set: a set of hosts and a set of links, each a number with bit i for host or link i.
-#[derive(Drop)]
+#[derive(Clone, Copy)]
 pub struct Faults {
     pub hosts: u32,
     pub links: u32,
@@ -42,21 +44,21 @@ pub struct Faults {
 
 // What a rule set promises of a network: the bound Δ on delivery, and the starting window W.
 #[repr(C)]
-#[derive(Drop)]
+#[derive(Clone, Copy)]
 pub struct Timing {
     pub bound: u64,
     pub window: u64,
 }
 
 // What planning finds: the largest diameter d over all fault sets, and the two rule sets' timing.
-#[derive(Drop)]
+#[derive(Clone, Copy)]
 pub struct Bounds {
     pub d: u8,
     pub first: Timing,
     pub second: Timing,
 }
 
-#[derive(Drop)]
+#[derive(Clone, Copy)]
 pub enum Planned {
     Accepted(Bounds),
     OutOfRange,

@@ -1,5 +1,7 @@
 // Plans at the edges of each refusal, one beside each edge, and plans drawn from a fixed seed; a line for the answer to each.
 // What the lines should be is worked out by checks/network.py, which reads 01 on its own.
+#![tactic(auto)]
+
 mod drawn;
 
 use libc::STDOUT_FILENO;

@@ -1,10 +1,12 @@
 // The order that the hosts carry, its bytes, and the two rule sets.
+#![tactic(auto)]
+
 ghost use Rattle.std.specs.Prelude.{◌≡◌, length};
 ghost use Rattle.orders.specs.Orders.{kind_of, image_of, share_of, share_fits, same_order, order_of, order_bytes, is_kind, size_of, is_share, wrong_size, wrong_value};
 ghost use Rattle.orders.specs.Rules.{is_rules, hop_fits};
 
 // The first case with zeros is the blank order: its share is out of range, so no host holds it.
-#[derive(Drop)]
+#[derive(Clone, Copy)]
 pub enum Order {
     Publish { image: u32, share: u8 },
     Halt(u32),

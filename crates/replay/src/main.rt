@@ -1,4 +1,6 @@
 // Reads a schedule from standard input and writes the report of its replay to standard output.
+#![tactic(auto)]
+
 use libc::{STDIN_FILENO, STDOUT_FILENO};
 use report::Told;
 

@@ -1,5 +1,7 @@
 // Schedules from standard input, each after its length in two bytes; the report of each, after a line with its number. incidents/make.py
 // writes the input from the incidents, and what must come of them from their texts.
+#![tactic(auto)]
+
 ghost use Rattle.std.specs.Prelude.{◌<◌, length};
 
 use libc::{STDIN_FILENO, STDOUT_FILENO};

@@ -1,4 +1,6 @@
 // The report of a replay as text.
+#![tactic(auto)]
+
 mod lines;
 mod runs;
 mod writers;
@@ -6,7 +8,7 @@ mod writers;
 ghost use Rattle.std.specs.Prelude.{◌≡◌};
 ghost use Rattle.report.specs.Calls.{reported, says, told, left};
 
-#[derive(Drop)]
+#[derive(Clone, Copy)]
 pub enum Told {
     Written(usize), // so many bytes
     ShortBuffer, // 22

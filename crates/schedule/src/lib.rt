@@ -1,4 +1,6 @@
 // A schedule, read from any bytes: the plan, the fault set, the clocks' offsets, the starts and the delay of each copy; or what is wrong first.
+#![tactic(auto)]
+
 mod answers;
 mod fates;
 mod rules;
@@ -18,14 +20,14 @@ use network::{Bounds, Faults, Link, Plan, Planned};
 use orders::Order;
 
 // An order started on a host at a tick.
-#[derive(Drop)]
+#[derive(Clone, Copy)]
 pub struct Start {
     pub tick: Tick,
     pub host: u8,
     pub order: Order,
 }
 
-#[derive(Drop)]
+#[derive(Clone, Copy)]
 pub struct Schedule {
     pub plan: Plan,
     pub bounds: Bounds, // what planning finds
@@ -37,7 +39,7 @@ pub struct Schedule {
     pub delays: [u8; 384], // of each copy, by start, link and direction; 0 is lost
 }
 
-#[derive(Drop)]
+#[derive(Clone, Copy)]
 pub enum Answer {
     Accepted,
     NotASchedule,
@@ -47,7 +49,7 @@ pub enum Answer {
     OutsideRules(usize),
 }
 
-#[derive(Drop)]
+#[derive(Clone, Copy)]
 pub struct Found {
     pub answer: Answer,
     pub schedule: Schedule,

@@ -6,7 +6,7 @@ ghost use Rattle.schedule.specs.Shape as spec;
 ghost use Rattle.schedule.specs.Inside.{Counted, Next};
 
 // How many records the bytes have, how many of them are links and starts, and where the last one ends.
-#[derive(Drop)]
+#[derive(Clone, Copy)]
 pub(crate) struct Tally {
     pub records: usize,
     pub links: usize,

@@ -1,5 +1,7 @@
 // Schedules from standard input, each after its length in two bytes; a line for each answer. checks/schedule.py, which reads 01 on its own,
 // writes the input and works out what the lines should be.
+#![tactic(auto)]
+
 mod show;
 
 ghost use Rattle.std.specs.Prelude.{◌<◌, length};

@@ -70,7 +70,7 @@ pub(crate) fn after_copy(
 }
 
 // What a tick leaves of the history.
-#[derive(Drop)]
+#[derive(Clone, Copy)]
 pub(crate) struct Rest {
     pub history: [HeldMemory; 32],
     pub held: usize,

@@ -20,7 +20,7 @@ use clock::Reading;
 use host::{Held, SendAnswer, TickAnswer, number_of};
 
 // Whether a call is accepted, and its answer as one number.
-#[derive(Drop)]
+#[derive(Clone, Copy)]
 pub(crate) struct Answered {
     pub accepted: bool,
     pub number: u64,
@@ -72,7 +72,7 @@ fn sent(answer: SendAnswer) -> Answered
 }
 
 // What a tick leaves as the last reading, how many orders it delivers, and its answer as one number.
-#[derive(Drop)]
+#[derive(Clone, Copy)]
 pub(crate) struct Ticked {
     pub last: Reading,
     pub count: usize,

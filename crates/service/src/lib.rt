@@ -1,5 +1,7 @@
 // The door for a service that is not written in Rattle: exported calls over flat memory, which holds no enum and no reference. A host's calls and a board's work on that memory itself, by the host's and the board's own rules.
 // Every byte of the memory is some field's, and any bytes are allowed: what is not the memory of a sound state is refused 9.
+#![tactic(auto)]
+
 mod afters;
 mod answers;
 mod boards;
@@ -21,7 +23,7 @@ use network::{Plan, Timing};
 
 // A place of the history: all zero where it is unused.
 #[repr(C)]
-#[derive(Drop)]
+#[derive(Clone, Copy)]
 pub struct HeldMemory {
     pub stamp: Reading, // T
     pub image: u32,
@@ -32,7 +34,7 @@ pub struct HeldMemory {
 
 // A host's state.
 #[repr(C)]
-#[derive(Drop)]
+#[derive(Clone, Copy)]
 pub struct HostMemory {
     pub bound: u64, // Δ
     pub last: Reading,
@@ -48,7 +50,7 @@ pub struct HostMemory {
 
 // A place of a board: all zero where it is unused.
 #[repr(C)]
-#[derive(Drop)]
+#[derive(Clone, Copy)]
 pub struct PlaceMemory {
     pub image: u32,
     pub stand: u16, // 1 offered, 2 halted
@@ -56,7 +58,7 @@ pub struct PlaceMemory {
 }
 
 #[repr(C)]
-#[derive(Drop)]
+#[derive(Clone, Copy)]
 pub struct BoardMemory {
     pub count: usize,
     pub places: [PlaceMemory; 16],
@@ -64,7 +66,7 @@ pub struct BoardMemory {
 
 // A plan, and what planning finds of it.
 #[repr(C)]
-#[derive(Drop)]
+#[derive(Clone, Copy)]
 pub struct PlanMemory {
     pub first: Timing,
     pub second: Timing,
@@ -73,19 +75,19 @@ pub struct PlanMemory {
 }
 
 // What a call leaves of the memory, and what it answers.
-#[derive(Drop)]
+#[derive(Clone, Copy)]
 pub struct HostLeft {
     pub memory: HostMemory,
     pub answer: u64,
 }
 
-#[derive(Drop)]
+#[derive(Clone, Copy)]
 pub struct BoardLeft {
     pub memory: BoardMemory,
     pub answer: u64,
 }
 
-#[derive(Drop)]
+#[derive(Clone, Copy)]
 pub struct PlanLeft {
     pub memory: PlanMemory,
     pub answer: u64,

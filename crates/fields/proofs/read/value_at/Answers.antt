@@ -1,0 +1,19 @@
+-- After i turns x is the number in the first i bytes, of which there are 8 at most; past the end all of them are 0. Assumes nothing.
+use mathlib.Core.Path.{◌≡◌, sym}
+use Prim.Native.Nat.{◌≤◌, ◌<◌, ◌-◌, ◌^◌, min}
+use native.Mathlib.Omega.{arith}
+use Rattle.lists.specs.Bytes.{val_at}
+use Rattle.lists.proofs.ByteLaws.{val_none, val_more, digit_lt, digit_fits}
+use Rattle.fields.proofs.Reading.{val_past}
+use Rattle.fields.proofs.read.value_at.Goals as goal
+
+pub returns-then-bytes-at : goal.returns-then-bytes-at
+returns-then-bytes-at c = sym (val_past _ _ _ c.if-bytes-at.true)
+
+pub loop-i-init : goal.loop-i-init
+loop-i-init c = (omega arith, (sym (val_none _ _), omega arith))
+
+pub loop-i-preserved : goal.loop-i-preserved
+loop-i-preserved c =
+    let l = c.loop-i in
+    (omega arith, (cc (l.invariant.1.0, c.byte_at.ensures, val_more _ _ l.i), digit_lt l.x c.byte_at.result l.i l.invariant.1.1 (omega arith)))
