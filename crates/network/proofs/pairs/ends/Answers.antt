@@ -1,7 +1,6 @@
 -- One bit for the link, and one for the link turned round. Assumes nothing.
 use Rattle.network.specs.Inside.{joins}
 use Rattle.network.proofs.PairLaws.{both_ways}
-use borrow.Author.Rules.{rules}
 use Rattle.network.proofs.pairs.ends.Goals as goal
 
 pub returns : goal.returns

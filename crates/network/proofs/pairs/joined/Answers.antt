@@ -1,16 +1,13 @@
 -- The invariant: the pairs of the links passed. Assumes nothing.
 use mathlib.Core.Path.{sym, ap₂, ◌∙◌}
 use mathlib.Core.Bool.{Bool, ◌||◌}
-use Prim.Native.Nat.{ℕ, ◌-◌, ◌≤◌}
-use native.Mathlib.Omega.{arith}
+use Prim.Native.Nat.{ℕ}
 use borrow.Author.Rules.{rules}
-use lib.ListN.{get_or}
 use Rattle.lists.specs.Searches.{some}
 use Rattle.lists.proofs.SearchLaws.{some_start, some_more, at_end}
-use Rattle.network.specs.Network.{link, no_link}
-use Rattle.network.specs.Inside.{pair, Pairs, joins, linked}
+use Rattle.network.specs.Network.{link}
+use Rattle.network.specs.Inside.{pair, joins, linked}
 use Rattle.network.proofs.Bits.{has_none, has_or}
-use Rattle.network.proofs.pairs.ends.Reads as ends-reads
 use Rattle.network.proofs.pairs.joined.Goals as goal
 
 pub loop-i-init : goal.loop-i-init

@@ -1,8 +1,6 @@
 -- The mask is computed for each n. Assumes nothing.
 use native.Mathlib.Omega.{arith}
-use borrow.Author.Rules.{rules}
-use Rattle.network.proofs.PairLaws.{first_hosts_lem, top_fits}
-use borrow.Author.Rules.{rules}
+use Rattle.network.proofs.PairLaws.{first_hosts_lem}
 use Rattle.network.proofs.pairs.square.Goals as goal
 
 pub returns : goal.returns

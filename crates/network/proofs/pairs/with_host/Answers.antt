@@ -1,7 +1,5 @@
 -- The mask is computed for each host. Assumes nothing.
-use borrow.Author.Rules.{rules}
 use Rattle.network.proofs.PairLaws.{with_host_lem}
-use borrow.Author.Rules.{rules}
 use Rattle.network.proofs.pairs.with_host.Goals as goal
 
 pub returns : goal.returns

@@ -1,36 +1,29 @@
 -- Each return has the tests that its answer asks for, in the order of check. Assumes nothing.
-use borrow.Author.Rules.{rules}
-use mathlib.Core.Bool.{true, false}
 use Prim.Native.Nat.{ℕ, ◌≤◌, ◌<◌}
-use borrow.Author.Tests.{not-true, not-false}
-use Rattle.network.specs.Network.{in_range, bad_links}
 use Rattle.network.proofs.Ranges.{ranges, small}
 use Rattle.network.proofs.Answers.{says_out, says_bad, says_parted, says_accepted}
-use mathlib.Core.Path.{◌≡◌, sym, ◌∙◌, subst}
+use mathlib.Core.Path.{sym, ◌∙◌, subst}
 use Rattle.network.proofs.planning.plan.Goals as goal
 
-in_range_lem : (c : tie.Else1) → in_range c.args.p ≡ true
-in_range_lem c = sym c.in_range.ensures ∙ not-false _ c.if-not-in_range.false
-
-no-bad-link : (c : tie.Else2) → bad_links c.args.p ≡ false
-no-bad-link c = sym c.has_bad_link.ensures ∙ c.if-has_bad_link.false
-
 pub returns-then-not-in_range : goal.returns-then-not-in_range
-returns-then-not-in_range c = says_out _ (sym c.in_range.ensures ∙ not-true _ c.if-not-in_range.true)
+returns-then-not-in_range c = says_out _ (sym c.in_range.ensures ∙ c.if-not-in_range.true)
 
 pub returns-then-has_bad_link : goal.returns-then-has_bad_link
-returns-then-has_bad_link c = says_bad _ (in_range_lem c) (sym c.has_bad_link.ensures ∙ c.if-has_bad_link.true)
+returns-then-has_bad_link c = says_bad _ (sym c.in_range.ensures ∙ c.if-not-in_range.false) (sym c.has_bad_link.ensures ∙ c.if-has_bad_link.true)
 
 pub worst_of-d-requires : goal.worst_of-d-requires
-worst_of-d-requires c = small _ (in_range_lem c) (no-bad-link c)
+worst_of-d-requires c = small _ (sym c.in_range.ensures ∙ c.if-not-in_range.false) (sym c.has_bad_link.ensures ∙ c.if-has_bad_link.false)
 
 pub returns-then-d-p : goal.returns-then-d-p
 returns-then-d-p c =
     let near = subst (λ (d : ℕ). c.args.p.hosts ≤ d) c.worst_of-d.ensures c.if-d-p.true in
-    says_parted _ (in_range_lem c) (no-bad-link c) near
+    says_parted _ (sym c.in_range.ensures ∙ c.if-not-in_range.false) (sym c.has_bad_link.ensures ∙ c.if-has_bad_link.false) near
 
 pub returns : goal.returns
 returns c =
     let p = c.args.p in
     let near = subst (λ (d : ℕ). d < p.hosts) c.worst_of-d.ensures c.if-d-p.false in
-    simp (c.timing_of.ensures, c.timing_of-2.ensures, c.worst_of-d.ensures) (says_accepted p (in_range_lem c) (no-bad-link c) near)
+    simp (c.timing_of.ensures, c.timing_of-2.ensures, c.worst_of-d.ensures) (says_accepted p (sym c.in_range.ensures ∙ c.if-not-in_range.false) (sym c.has_bad_link.ensures ∙ c.if-has_bad_link.false) near)
+
+pub has_bad_link-requires : goal.has_bad_link-requires
+has_bad_link-requires c = let r = ranges _ (sym c.in_range.ensures ∙ c.if-not-in_range.false) in record { hosts_bound = r.hosts_high; link_count_bound = r.links_high }

@@ -1,5 +1,4 @@
 -- The chain of tests is the list of tests. Assumes nothing.
-use borrow.Author.Rules.{rules}
 use Rattle.lists.proofs.TestLaws.{all_chain}
 use Rattle.network.specs.Network.{in_range}
 use Rattle.network.proofs.proper.in_range.Goals as goal

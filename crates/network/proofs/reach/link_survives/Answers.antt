@@ -1,5 +1,4 @@
 -- The chain of tests is the list of tests, each what `is_in` ensures. Assumes nothing.
-use borrow.Author.Rules.{rules}
 use Rattle.lists.proofs.TestLaws.{all_chain}
 use Rattle.network.specs.Network.{survives}
 use Rattle.network.proofs.reach.link_survives.Goals as goal

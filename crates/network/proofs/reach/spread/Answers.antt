@@ -1,17 +1,17 @@
 -- The invariant: in the set are each host with itself, and what the rows passed have put in. Assumes nothing.
 use mathlib.Core.Path.{sym, ap, ap₂, ◌∙◌}
 use mathlib.Core.Bool.{Bool, ◌&&◌, ◌||◌, or-false}
-use Prim.Native.Nat.{ℕ, ◌-◌, ◌/◌, ◌^◌, ◌≤◌}
+use Prim.Native.Nat.{ℕ}
 use borrow.Author.Rules.{rules}
 use lib.Dec.{eqb}
 use Rattle.lists.specs.Searches.{some}
 use Rattle.lists.proofs.Bools.{or_swap}
 use Rattle.lists.proofs.SearchLaws.{some_start, some_more, at_end}
 use Rattle.network.specs.Network.{has}
-use Rattle.network.specs.Inside.{pair, Pairs, spreads}
+use Rattle.network.specs.Inside.{pair, spreads}
 use Rattle.network.proofs.Bits.{has_or}
 use Rattle.network.proofs.PairLaws.{itself}
-use Rattle.network.proofs.Rows.{row_has, row_fits}
+use Rattle.network.proofs.Rows.{row_has}
 use Rattle.network.proofs.reach.spread.Goals as goal
 
 pub loop-c-init : goal.loop-c-init

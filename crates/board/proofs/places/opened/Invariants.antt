@@ -1,0 +1,13 @@
+-- The invariant: with what is carried put in at i, the places are those with p put in at `at`. Assumes nothing.
+use Rattle.board.specs.Board.{blank}
+use borrow.Author.Rules.{rules}
+use Prim.Native.Nat.{◌-◌}
+use Rattle.board.proofs.Moves.{MovedUp, up_start, up_turn, up_end}
+use native.Mathlib.Omega.{arith}
+use Rattle.board.proofs.places.opened.Given as goal
+
+abbrev pub invariant-loop-i : goal.invariant-loop-i
+invariant-loop-i l = MovedUp 16 l.initial.out l.at l.initial.carried l.out l.carried l.i
+
+abbrev pub decreases-loop-i : goal.decreases-loop-i
+decreases-loop-i l = 16 - l.i
