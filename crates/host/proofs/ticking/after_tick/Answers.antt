@@ -1,0 +1,40 @@
+-- A state that is not sound is refused first; a refusal keeps the state and the lent list; else both are what is left. Assumes nothing.
+use borrow.Author.Rules.{rules}
+use mathlib.Core.Path.{◌≡◌, sym, ap, ◌∙◌}
+use borrow.Author.Tests.{not-true, not-false}
+use lib.ListN.{length}
+use Rattle.host.specs.declared.Refusal.TheVariants.{Unsound}
+use Rattle.host.specs.declared.TickAnswer.{TickAnswer}
+use Rattle.host.specs.Answers.{number, SaidTick, says_tick}
+use Rattle.host.specs.Tick.{due_of, tick_checks, tick_tests, tick_refusal}
+use Rattle.host.proofs.Numbers.{kept, tick_refused, tick_refusal_lem}
+use Rattle.host.proofs.Answered.{unsound_first, tick_said}
+use Rattle.host.proofs.ticking.after_tick.Goals as goal
+
+pub returns-then-not-is_sound : goal.returns-then-not-is_sound
+unfolding tick_tests
+returns-then-not-is_sound c =
+    let a = c.args in
+    let h = a.host in
+    let e = unsound_first h (tick_checks h a.u.0 (length a.out.now) (length (due_of h a.u.0))) (sym c.is_sound.ensures ∙ not-true _ c.if-not-is_sound.true) in
+    (kept Unsound _ _ _ e, (tick_refused Unsound _ _ e, kept Unsound _ _ _ e))
+
+pub tick_left-requires : goal.tick_left-requires
+tick_left-requires c =
+    let a = c.args in
+    let said = tick_said a.host a.u.0 (length a.out.now) _ _ (sym c.is_sound.ensures ∙ not-false _ c.if-not-is_sound.false) c.frame_of.ensures c.due_count-count.ensures.0 c.tick_answer-answer.ensures in
+    sym (ap (λ (w : SaidTick). w.refusal) said ∙ tick_refusal_lem (tick_refusal a.host a.u.0 (length a.out.now)) _) ∙ ap (λ (x : TickAnswer). (says_tick x).refusal) c.answer-in-Delivered-1.given.1
+
+pub returns-in-Refused : goal.returns-in-Refused
+returns-in-Refused c =
+    let a = c.args in
+    let said = tick_said a.host a.u.0 (length a.out.now) _ _ (sym c.is_sound.ensures ∙ not-false _ c.if-not-is_sound.false) c.frame_of.ensures c.due_count-count.ensures.0 c.tick_answer-answer.ensures in
+    let w = c.answer-1.given.0.0 in
+    let e : number w ≡ tick_refusal a.host a.u.0 (length a.out.now) = ap (λ (x : TickAnswer). (says_tick x).refusal) (sym c.answer-1.given.1) ∙ ap (λ (w : SaidTick). w.refusal) said ∙ tick_refusal_lem (tick_refusal a.host a.u.0 (length a.out.now)) _ in
+    (kept w _ _ _ e, (ap says_tick (sym c.answer-1.given.1) ∙ said, kept w _ _ _ e))
+
+pub returns-in-Delivered : goal.returns-in-Delivered
+returns-in-Delivered c =
+    let a = c.args in
+    let said = tick_said a.host a.u.0 (length a.out.now) _ _ (sym c.is_sound.ensures ∙ not-false _ c.if-not-is_sound.false) c.frame_of.ensures c.due_count-count.ensures.0 c.tick_answer-answer.ensures in
+    (c.tick_left.ensures.0, (ap says_tick (sym c.answer-in-Delivered-1.given.1) ∙ said, c.tick_left.ensures.1))

@@ -1,0 +1,29 @@
+-- Of those looked at, the due ones are written and the others are kept, each behind those before it. Assumes nothing.
+use borrow.Author.Rules.{rules}
+use native.Mathlib.Omega.{arith}
+use mathlib.Core.Path.{◌≡◌, refl, sym, ap, ◌∙◌}
+use Prim.Native.Nat.{ℕ, ◌+◌, ◌-◌, ◌*◌, ◌≤◌, ◌<◌}
+use mathlib.Core.Bool.{Bool, true, false, not}
+use mathlib.Core.List.{List, ◌++◌}
+use lib.ListN.{length, take, drop, get_or, set}
+use Rattle.host.specs.declared.Held.{Held}
+use Rattle.lists.specs.Lists.{keep, pad}
+use Rattle.lists.proofs.Places.{pad_more}
+use Rattle.host.specs.State.{no_held}
+use Rattle.host.specs.Entries.{entries_of}
+use Rattle.host.specs.Tick.{due}
+use Rattle.lists.proofs.Loops.{keep_yes, keep_no, count_yes, keep_grows}
+use Rattle.host.proofs.Writes.{entries_turn}
+use Rattle.host.proofs.ticking.deliver.Given as goal
+
+abbrev pub invariant-loop-i : goal.invariant-loop-i
+invariant-loop-i l = (l.i ≤ l.held)
+    × (l.delivered ≡ length (keep (due l.bound l.u.0) (take l.i l.history)))
+    × (l.waiting ≡ length (keep (λ (e : Held). not (due l.bound l.u.0 e)) (take l.i l.history)))
+    × (l.delivered + l.waiting ≡ l.i)
+    × (l.rest ≡ pad 32 no_held (keep (λ (e : Held). not (due l.bound l.u.0 e)) (take l.i l.history)))
+    × (length l.out ≡ length l.initial.out)
+    × (l.out ≡ entries_of (keep (due l.bound l.u.0) (take l.i l.history)) ++ drop (16 * l.delivered) l.initial.out)
+
+abbrev pub decreases-loop-i : goal.decreases-loop-i
+decreases-loop-i l = l.held - l.i

@@ -1,0 +1,14 @@
+-- What is left to test is the rest of the places; each turn tests the first. Assumes nothing.
+use borrow.Author.Rules.{rules}
+use mathlib.Core.Path.{refl}
+use Prim.Native.Nat.{◌-◌}
+use Rattle.network.specs.Network.{no_link}
+use Rattle.host.specs.State.{is_no_link}
+use Rattle.lists.proofs.Walks.{Tested, tested_start, tested_turn, tested_end}
+use Rattle.host.proofs.unused.links_unused.Given as goal
+
+abbrev pub invariant-loop-i : goal.invariant-loop-i
+invariant-loop-i l = Tested is_no_link l.links l.used l.ok l.i
+
+abbrev pub decreases-loop-i : goal.decreases-loop-i
+decreases-loop-i l = 12 - l.i
