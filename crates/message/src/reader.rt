@@ -37,7 +37,7 @@ pub fn whole<'a>(r: Reader<'a>, rules: u8) -> Got
 
 // The order's bytes, as that part of the message, wherever the place is.
 pub fn order_bytes<'a>(r: Reader<'a>, rules: u8) -> &'a [u8]
-    ensures { (result.ref_ptr ≡ place_of rules r.entry.message.now r.entry.message.ptr) × (result.now ≡ part_of rules r.entry.message.now) }
+    ensures { (result.ref_ptr ≡ place_of rules r.entry.message.now r.entry.message.ref_ptr) × (result.now ≡ part_of rules r.entry.message.now) }
 {
     crate::order_part(rules, r.message)
 }
