@@ -24,7 +24,7 @@ use Rattle.orders.specs.declared.Order.{Order}
 use Rattle.network.specs.Network as net
 use Rattle.host.specs.declared.Held.{Held}
 use Rattle.host.specs.declared.Host.{Host}
-use Rattle.host.specs.State.{no_reading, no_held, is_no_reading, is_no_held, starts_of, held_of, last_start, same_name, before, earlier, fits, own_started, not_above, sound, Sized, at}
+use Rattle.host.specs.State.{no_reading, no_held, is_no_reading, is_no_held, starts_of, held_of, last_start, same_name, before, earlier, fits, own_started, not_above, Sized, at}
 use Rattle.host.specs.Start.{with_start, start_of, after_start}
 use Rattle.host.specs.Receive.{same_held, other_held, after_receive}
 use Rattle.host.specs.Tick.{due, waiting_of, after_tick}

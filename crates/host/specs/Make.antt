@@ -1,5 +1,5 @@
 -- Making a host: "making a host 1, 2, 3, 23, 15"; "Making a host takes Δ from planning" (01, "Refusal numbers"). Assumes nothing.
-use Rattle.std.specs.Prelude.{Bool, not, List, [], ◌∷◌, ◌++◌, ℕ, ◌+◌, leb}
+use Rattle.std.specs.Prelude.{Bool, not, List, [], ◌∷◌, ◌++◌, ℕ, leb}
 use Rattle.lists.specs.Tests.{first_of}
 use Rattle.lists.specs.Lists.{pad}
 use Rattle.orders.specs.Rules.{is_rules}

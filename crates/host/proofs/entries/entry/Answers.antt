@@ -1,5 +1,4 @@
 -- Each byte is the remainder of its quotient, as the definition has it. Assumes nothing.
-use borrow.Author.Rules.{rules}
 use Rattle.lists.specs.Bytes.{be}
 use Rattle.host.specs.Entries.{entry_of}
 use Rattle.host.proofs.entries.entry.Goals as goal

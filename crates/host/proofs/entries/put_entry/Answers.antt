@@ -1,8 +1,7 @@
 -- What is written so far is a paste of as many bytes. Assumes nothing.
 use borrow.Author.Rules.{rules}
 use native.Mathlib.Omega.{arith}
-use Prim.Native.Nat.{◌-◌, ◌≤◌}
-use Rattle.lists.proofs.Walks.{Pasted, paste_start, paste_turn, paste_end}
+use Rattle.lists.proofs.Walks.{paste_turn}
 use Rattle.host.proofs.entries.put_entry.Goals as goal
 
 pub loop-j-preserved : goal.loop-j-preserved

@@ -1,15 +1,10 @@
 -- Each turn tests the first of what is left, and what is left still decides: a test that fails there fails of the whole. Behind those held the
 -- unused places are left. Assumes nothing.
-use borrow.Author.Rules.{rules}
-use borrow.Author.Tests.{lt-leb}
-use native.Mathlib.Omega.{arith}
-use mathlib.Core.Path.{sym}
 use mathlib.Core.Bool.{true}
 use Prim.Native.Nat.{◌-◌}
-use Rattle.lists.proofs.TestLaws.{all_miss, each_all}
-use Rattle.host.specs.State.{no_held, is_no_held, before, fits, own_started}
-use Rattle.lists.proofs.Walks.{Tested, tested_start, tested_miss, tested_more, tested_end}
-use Rattle.lists.proofs.Histories.{Walked, walk_start, unfit, unordered, unstarted, walk_turn, walk_end}
+use Rattle.host.specs.State.{is_no_held, before, fits, own_started}
+use Rattle.lists.proofs.Walks.{Tested}
+use Rattle.lists.proofs.Histories.{Walked}
 use Rattle.host.proofs.history.is_history.Given as goal
 
 abbrev pub invariant-loop-i : goal.invariant-loop-i

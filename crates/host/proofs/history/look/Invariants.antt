@@ -1,9 +1,8 @@
 -- What is left to look at is the list; each turn looks at its first. Assumes nothing.
-use borrow.Author.Rules.{rules}
 use Prim.Native.Nat.{◌-◌}
-use Rattle.lists.proofs.Looks.{Looked, look_start, look_turn, look_end}
+use Rattle.lists.proofs.Looks.{Looked}
 use Rattle.orders.specs.Orders.{same_order}
-use Rattle.host.specs.State.{no_held, same_name}
+use Rattle.host.specs.State.{same_name}
 use Rattle.host.proofs.history.look.Given as goal
 
 abbrev pub invariant-loop-i : goal.invariant-loop-i

@@ -1,8 +1,8 @@
 -- Each turn puts one more link behind those before it. Assumes nothing.
 use borrow.Author.Rules.{rules}
 use native.Mathlib.Omega.{arith}
-use mathlib.Core.Path.{◌≡◌, refl, sym, ap, ◌∙◌}
-use Prim.Native.Nat.{ℕ, ◌-◌, ◌≤◌}
+use mathlib.Core.Path.{◌≡◌, sym, ap, ◌∙◌}
+use Prim.Native.Nat.{ℕ}
 use mathlib.Core.List.{List}
 use lib.ListN.{length, take, get_or, set}
 use lib.Seq.{length-take-le, take-suc}
@@ -17,12 +17,12 @@ pub loop-i-preserved : goal.loop-i-preserved
 loop-i-preserved c =
     let a = c.args in
     let s = c.loop-i in
-    let l : List Link = take s.i a.t1 in
-    let x : Link = get_or a.t1 s.i no_link in
-    let n : length l ≡ s.i = length-take-le s.i a.t1 (omega arith) in (
+    let l : List Link = take s.i a.links in
+    let x : Link = get_or a.links s.i no_link in
+    let n : length l ≡ s.i = length-take-le s.i a.links (omega arith) in (
       search rules,
       ap (λ (t : List Link). set t s.i x) s.invariant.1
           ∙ ap (λ (k : ℕ). set (pad 12 no_link l) k x) (sym n)
           ∙ pad_more 12 no_link x l (omega arith)
-          ∙ ap (λ (t : List Link). pad 12 no_link t) (sym (take-suc a.t1 s.i no_link (omega arith)) ∙ ap (λ (k : ℕ). take k a.t1) (sym (add-one s.i))),
+          ∙ ap (λ (t : List Link). pad 12 no_link t) (sym (take-suc a.links s.i no_link (omega arith)) ∙ ap (λ (k : ℕ). take k a.links) (sym (add-one s.i))),
     )

@@ -1,7 +1,5 @@
 -- A state that is not sound is refused first; a refusal keeps the state; else the order is held. Assumes nothing.
-use borrow.Author.Rules.{rules}
 use mathlib.Core.Path.{◌≡◌, sym, ap, ◌∙◌}
-use borrow.Author.Tests.{not-true, not-false}
 use Rattle.lists.specs.Lists.{any}
 use Rattle.host.specs.declared.Refusal.TheVariants.{Unsound}
 use Rattle.host.specs.declared.SendAnswer.{SendAnswer}
@@ -19,28 +17,28 @@ returns-then-not-is_sound c =
     let a = c.args in
     let h = a.host in
     let x = a.copy in
-    let e = unsound_first h (receive_checks h a.u.0 a.arrival a.hop x (any (same_held x) (held_of h)) (any (other_held x) (held_of h)) (any (same_name x) (held_of h))) (sym c.is_sound.ensures ∙ not-true _ c.if-not-is_sound.true) in
+    let e = unsound_first h (receive_checks h a.u.0 a.arrival a.hop x (any (same_held x) (held_of h)) (any (other_held x) (held_of h)) (any (same_name x) (held_of h))) (sym c.is_sound.ensures ∙ c.if-not-is_sound.true) in
     (kept Unsound _ _ _ e, says_refused Unsound _ _ _ e)
 
 pub look-seen-requires : goal.look-seen-requires
-look-seen-requires c = (sound_is c.args.host (sym c.is_sound.ensures ∙ not-false _ c.if-not-is_sound.false)).held
+look-seen-requires c = (sound_is c.args.host (sym c.is_sound.ensures ∙ c.if-not-is_sound.false)).held
 
 pub receive_held-requires : goal.receive_held-requires
 receive_held-requires c =
     let a = c.args in
-    let said = receive_said a.host a.u.0 a.arrival a.hop a.copy _ _ _ _ (sym c.is_sound.ensures ∙ not-false _ c.if-not-is_sound.false) c.frame_of.ensures c.look-seen.ensures c.receive_answer-answer.ensures in
-    sym (ap (λ (w : Said). w.refusal) said ∙ said_refusal (receive_refusal a.host a.u.0 a.arrival a.hop a.copy) _ _) ∙ ap (λ (x : SendAnswer). (says x).refusal) c.answer-in-Sent-1.given.1
+    let said = receive_said a.host a.u.0 a.arrival a.hop a.copy _ _ _ _ (sym c.is_sound.ensures ∙ c.if-not-is_sound.false) c.frame_of.ensures (c.look-seen.ensures.same_value, (c.look-seen.ensures.other_value, c.look-seen.ensures.named_value)) c.receive_answer-answer.ensures in
+    sym (ap (λ (w : Said). w.refusal) said ∙ said_refusal (receive_refusal a.host a.u.0 a.arrival a.hop a.copy) _ _) ∙ ap (λ (x : SendAnswer). (says x).refusal) c.in-Sent.is
 
 pub returns-in-Refused : goal.returns-in-Refused
 returns-in-Refused c =
     let a = c.args in
-    let said = receive_said a.host a.u.0 a.arrival a.hop a.copy _ _ _ _ (sym c.is_sound.ensures ∙ not-false _ c.if-not-is_sound.false) c.frame_of.ensures c.look-seen.ensures c.receive_answer-answer.ensures in
-    let w = c.answer-1.given.0.0 in
-    let e : number w ≡ receive_refusal a.host a.u.0 a.arrival a.hop a.copy = ap (λ (x : SendAnswer). (says x).refusal) (sym c.answer-1.given.1) ∙ ap (λ (w : Said). w.refusal) said ∙ said_refusal (receive_refusal a.host a.u.0 a.arrival a.hop a.copy) _ _ in
-    (kept w _ _ _ e, ap says (sym c.answer-1.given.1) ∙ said)
+    let said = receive_said a.host a.u.0 a.arrival a.hop a.copy _ _ _ _ (sym c.is_sound.ensures ∙ c.if-not-is_sound.false) c.frame_of.ensures (c.look-seen.ensures.same_value, (c.look-seen.ensures.other_value, c.look-seen.ensures.named_value)) c.receive_answer-answer.ensures in
+    let w = c.in-Refused.refusal in
+    let e : number w ≡ receive_refusal a.host a.u.0 a.arrival a.hop a.copy = ap (λ (x : SendAnswer). (says x).refusal) (sym c.in-Refused.is) ∙ ap (λ (w : Said). w.refusal) said ∙ said_refusal (receive_refusal a.host a.u.0 a.arrival a.hop a.copy) _ _ in
+    (kept w _ _ _ e, ap says (sym c.in-Refused.is) ∙ said)
 
 pub returns-in-Sent : goal.returns-in-Sent
 returns-in-Sent c =
     let a = c.args in
-    let said = receive_said a.host a.u.0 a.arrival a.hop a.copy _ _ _ _ (sym c.is_sound.ensures ∙ not-false _ c.if-not-is_sound.false) c.frame_of.ensures c.look-seen.ensures c.receive_answer-answer.ensures in
-    (c.receive_held.ensures, ap says (sym c.answer-in-Sent-1.given.1) ∙ said)
+    let said = receive_said a.host a.u.0 a.arrival a.hop a.copy _ _ _ _ (sym c.is_sound.ensures ∙ c.if-not-is_sound.false) c.frame_of.ensures (c.look-seen.ensures.same_value, (c.look-seen.ensures.other_value, c.look-seen.ensures.named_value)) c.receive_answer-answer.ensures in
+    (c.receive_held.ensures, ap says (sym c.in-Sent.is) ∙ said)

@@ -1,6 +1,4 @@
 -- Each part of the new state is its own function of the old. Assumes nothing.
-use borrow.Author.Rules.{rules}
-use native.Mathlib.Omega.{arith}
 use Rattle.host.proofs.Facts.{receive_is}
 use Rattle.host.proofs.receiving.receive_held.Goals as goal
 
@@ -8,4 +6,4 @@ pub with_held-after-requires : goal.with_held-after-requires
 with_held-after-requires c =
     let a = c.args in
     let k = receive_is a.host a.u.0 a.arrival a.hop a.copy c.requires in
-    (k.room, k.sound.rise, k.sound.history-unused)
+    (k.room, k.sound.rise, k.sound.history_unused)

@@ -1,5 +1,4 @@
 -- The chain of tests is the list of tests; a count too large fails its own test. Assumes nothing.
-use borrow.Author.Rules.{rules}
 use mathlib.Core.Path.{sym}
 use borrow.Author.Tests.{lt-leb}
 use Rattle.lists.proofs.TestLaws.{all_miss, all_chain}

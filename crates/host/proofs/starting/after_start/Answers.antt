@@ -1,7 +1,5 @@
 -- A state that is not sound is refused first; a refusal keeps the state; else the order is held. Assumes nothing.
-use borrow.Author.Rules.{rules}
 use mathlib.Core.Path.{◌≡◌, sym, ap, ◌∙◌}
-use borrow.Author.Tests.{not-true, not-false}
 use Rattle.host.specs.declared.Refusal.TheVariants.{Unsound}
 use Rattle.host.specs.declared.SendAnswer.{SendAnswer}
 use Rattle.host.specs.Answers.{number, Said, says}
@@ -14,25 +12,25 @@ pub returns-then-not-is_sound : goal.returns-then-not-is_sound
 unfolding start_tests
 returns-then-not-is_sound c =
     let a = c.args in
-    let e = unsound_first a.host (start_checks a.host a.u.0 a.order) (sym c.is_sound.ensures ∙ not-true _ c.if-not-is_sound.true) in
+    let e = unsound_first a.host (start_checks a.host a.u.0 a.order) (sym c.is_sound.ensures ∙ c.if-not-is_sound.true) in
     (kept Unsound _ _ _ e, says_refused Unsound _ _ _ e)
 
 pub start_held-requires : goal.start_held-requires
 start_held-requires c =
     let a = c.args in
-    let said = start_said a.host a.u.0 a.order _ (sym c.is_sound.ensures ∙ not-false _ c.if-not-is_sound.false) c.frame_of.ensures c.start_answer-answer.ensures in
-    sym (ap (λ (w : Said). w.refusal) said ∙ said_refusal (start_refusal a.host a.u.0 a.order) _ _) ∙ ap (λ (x : SendAnswer). (says x).refusal) c.answer-in-Sent-1.given.1
+    let said = start_said a.host a.u.0 a.order _ (sym c.is_sound.ensures ∙ c.if-not-is_sound.false) c.frame_of.ensures c.start_answer-answer.ensures in
+    sym (ap (λ (w : Said). w.refusal) said ∙ said_refusal (start_refusal a.host a.u.0 a.order) _ _) ∙ ap (λ (x : SendAnswer). (says x).refusal) c.in-Sent.is
 
 pub returns-in-Refused : goal.returns-in-Refused
 returns-in-Refused c =
     let a = c.args in
-    let said = start_said a.host a.u.0 a.order _ (sym c.is_sound.ensures ∙ not-false _ c.if-not-is_sound.false) c.frame_of.ensures c.start_answer-answer.ensures in
-    let w = c.answer-1.given.0.0 in
-    let e : number w ≡ start_refusal a.host a.u.0 a.order = ap (λ (x : SendAnswer). (says x).refusal) (sym c.answer-1.given.1) ∙ ap (λ (w : Said). w.refusal) said ∙ said_refusal (start_refusal a.host a.u.0 a.order) _ _ in
-    (kept w _ _ _ e, ap says (sym c.answer-1.given.1) ∙ said)
+    let said = start_said a.host a.u.0 a.order _ (sym c.is_sound.ensures ∙ c.if-not-is_sound.false) c.frame_of.ensures c.start_answer-answer.ensures in
+    let w = c.in-Refused.refusal in
+    let e : number w ≡ start_refusal a.host a.u.0 a.order = ap (λ (x : SendAnswer). (says x).refusal) (sym c.in-Refused.is) ∙ ap (λ (w : Said). w.refusal) said ∙ said_refusal (start_refusal a.host a.u.0 a.order) _ _ in
+    (kept w _ _ _ e, ap says (sym c.in-Refused.is) ∙ said)
 
 pub returns-in-Sent : goal.returns-in-Sent
 returns-in-Sent c =
     let a = c.args in
-    let said = start_said a.host a.u.0 a.order _ (sym c.is_sound.ensures ∙ not-false _ c.if-not-is_sound.false) c.frame_of.ensures c.start_answer-answer.ensures in
-    (c.start_held.ensures, ap says (sym c.answer-in-Sent-1.given.1) ∙ said)
+    let said = start_said a.host a.u.0 a.order _ (sym c.is_sound.ensures ∙ c.if-not-is_sound.false) c.frame_of.ensures c.start_answer-answer.ensures in
+    (c.start_held.ensures, ap says (sym c.in-Sent.is) ∙ said)

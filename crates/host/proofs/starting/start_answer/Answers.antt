@@ -1,13 +1,12 @@
 -- A refusal says its number; else the links and the hop are those of the definition. Assumes nothing.
-use borrow.Author.Rules.{rules}
 use mathlib.Core.Path.{sym, ap, ◌∙◌}
 use Rattle.host.specs.Answers.{refusal_of}
 use Rattle.host.specs.OwnLinks.{placed}
-use Rattle.host.proofs.Numbers.{says_refused, says_sent}
+use Rattle.host.proofs.Numbers.{says_sent}
 use Rattle.host.proofs.Sets.{placed_most, all_own}
 use Rattle.host.proofs.starting.start_answer.Goals as goal
 
 pub returns-in-Clear : goal.returns-in-Clear
 returns-in-Clear c =
     let f = c.args.frame in
-    says_sent _ _ _ _ _ (sym c.start_checks-found.ensures ∙ ap refusal_of c.enum_told-1.given.1) (c.links_but.ensures ∙ all_own f.plan f.own (placed f.plan) (placed_most f.plan)) c.first_hop.ensures
+    says_sent _ _ _ _ _ (sym c.start_checks-found.ensures ∙ ap refusal_of c.in-Clear.is) (c.links_but.ensures ∙ all_own f.plan f.own (placed f.plan) (placed_most f.plan)) c.first_hop.ensures

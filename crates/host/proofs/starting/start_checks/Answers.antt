@@ -2,7 +2,6 @@
 use Rattle.host.specs.State.{no_reading, bare}
 use lib.ListN.{get_or}
 use Rattle.clock.specs.declared.Reading.{Reading}
-use borrow.Author.Rules.{rules}
 use mathlib.Core.Path.{refl, ap, ◌∙◌}
 use mathlib.Core.Bool.{Bool, not, ◌&&◌}
 use Prim.Native.Nat.{ℕ, ◌+◌}

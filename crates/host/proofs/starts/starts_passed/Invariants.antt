@@ -1,12 +1,10 @@
 -- What is left to test is the list; each turn tests its first. Assumes nothing.
-use borrow.Author.Rules.{rules}
-use mathlib.Core.Path.{◌≡◌, refl}
+use mathlib.Core.Path.{◌≡◌}
 use Prim.Native.Nat.{◌-◌, ◌≤◌}
 use lib.ListN.{take, drop}
 use mathlib.Core.Bool.{◌&&◌}
 use Rattle.lists.specs.Lists.{all}
-use Rattle.lists.proofs.Loops.{first_next, first_none, all_turn, all_end}
-use Rattle.host.specs.State.{no_reading, not_above}
+use Rattle.host.specs.State.{not_above}
 use Rattle.host.proofs.starts.starts_passed.Given as goal
 
 abbrev pub invariant-loop-i : goal.invariant-loop-i

@@ -1,12 +1,10 @@
 -- The one before stands beside what is left; each turn compares it with the first of that. Assumes nothing.
-use borrow.Author.Rules.{rules}
 use mathlib.Core.Path.{◌≡◌}
 use Prim.Native.Nat.{◌-◌, ◌<◌}
 use lib.ListN.{take, drop}
 use mathlib.Core.Bool.{◌&&◌}
 use Rattle.lists.specs.Lists.{rising, rising_from}
-use Rattle.lists.proofs.Loops.{first_next, first_none, rising_turn, rising_end, rising_start}
-use Rattle.host.specs.State.{no_reading, before, earlier}
+use Rattle.host.specs.State.{earlier}
 use Rattle.host.proofs.starts.starts_rise.Given as goal
 
 abbrev pub invariant-loop-i : goal.invariant-loop-i

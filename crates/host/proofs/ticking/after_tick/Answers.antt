@@ -1,7 +1,5 @@
 -- A state that is not sound is refused first; a refusal keeps the state and the lent list; else both are what is left. Assumes nothing.
-use borrow.Author.Rules.{rules}
 use mathlib.Core.Path.{◌≡◌, sym, ap, ◌∙◌}
-use borrow.Author.Tests.{not-true, not-false}
 use lib.ListN.{length}
 use Rattle.host.specs.declared.Refusal.TheVariants.{Unsound}
 use Rattle.host.specs.declared.TickAnswer.{TickAnswer}
@@ -16,25 +14,25 @@ unfolding tick_tests
 returns-then-not-is_sound c =
     let a = c.args in
     let h = a.host in
-    let e = unsound_first h (tick_checks h a.u.0 (length a.out.now) (length (due_of h a.u.0))) (sym c.is_sound.ensures ∙ not-true _ c.if-not-is_sound.true) in
+    let e = unsound_first h (tick_checks h a.u.0 (length a.out.now) (length (due_of h a.u.0))) (sym c.is_sound.ensures ∙ c.if-not-is_sound.true) in
     (kept Unsound _ _ _ e, (tick_refused Unsound _ _ e, kept Unsound _ _ _ e))
 
 pub tick_left-requires : goal.tick_left-requires
 tick_left-requires c =
     let a = c.args in
-    let said = tick_said a.host a.u.0 (length a.out.now) _ _ (sym c.is_sound.ensures ∙ not-false _ c.if-not-is_sound.false) c.frame_of.ensures c.due_count-count.ensures.0 c.tick_answer-answer.ensures in
-    sym (ap (λ (w : SaidTick). w.refusal) said ∙ tick_refusal_lem (tick_refusal a.host a.u.0 (length a.out.now)) _) ∙ ap (λ (x : TickAnswer). (says_tick x).refusal) c.answer-in-Delivered-1.given.1
+    let said = tick_said a.host a.u.0 (length a.out.now) _ _ (sym c.is_sound.ensures ∙ c.if-not-is_sound.false) c.frame_of.ensures c.due_count-count.ensures.0 c.tick_answer-answer.ensures in
+    sym (ap (λ (w : SaidTick). w.refusal) said ∙ tick_refusal_lem (tick_refusal a.host a.u.0 (length a.out.now)) _) ∙ ap (λ (x : TickAnswer). (says_tick x).refusal) c.in-Delivered.is
 
 pub returns-in-Refused : goal.returns-in-Refused
 returns-in-Refused c =
     let a = c.args in
-    let said = tick_said a.host a.u.0 (length a.out.now) _ _ (sym c.is_sound.ensures ∙ not-false _ c.if-not-is_sound.false) c.frame_of.ensures c.due_count-count.ensures.0 c.tick_answer-answer.ensures in
-    let w = c.answer-1.given.0.0 in
-    let e : number w ≡ tick_refusal a.host a.u.0 (length a.out.now) = ap (λ (x : TickAnswer). (says_tick x).refusal) (sym c.answer-1.given.1) ∙ ap (λ (w : SaidTick). w.refusal) said ∙ tick_refusal_lem (tick_refusal a.host a.u.0 (length a.out.now)) _ in
-    (kept w _ _ _ e, (ap says_tick (sym c.answer-1.given.1) ∙ said, kept w _ _ _ e))
+    let said = tick_said a.host a.u.0 (length a.out.now) _ _ (sym c.is_sound.ensures ∙ c.if-not-is_sound.false) c.frame_of.ensures c.due_count-count.ensures.0 c.tick_answer-answer.ensures in
+    let w = c.in-Refused.refusal in
+    let e : number w ≡ tick_refusal a.host a.u.0 (length a.out.now) = ap (λ (x : TickAnswer). (says_tick x).refusal) (sym c.in-Refused.is) ∙ ap (λ (w : SaidTick). w.refusal) said ∙ tick_refusal_lem (tick_refusal a.host a.u.0 (length a.out.now)) _ in
+    (kept w _ _ _ e, (ap says_tick (sym c.in-Refused.is) ∙ said, kept w _ _ _ e))
 
 pub returns-in-Delivered : goal.returns-in-Delivered
 returns-in-Delivered c =
     let a = c.args in
-    let said = tick_said a.host a.u.0 (length a.out.now) _ _ (sym c.is_sound.ensures ∙ not-false _ c.if-not-is_sound.false) c.frame_of.ensures c.due_count-count.ensures.0 c.tick_answer-answer.ensures in
-    (c.tick_left.ensures.0, (ap says_tick (sym c.answer-in-Delivered-1.given.1) ∙ said, c.tick_left.ensures.1))
+    let said = tick_said a.host a.u.0 (length a.out.now) _ _ (sym c.is_sound.ensures ∙ c.if-not-is_sound.false) c.frame_of.ensures c.due_count-count.ensures.0 c.tick_answer-answer.ensures in
+    (c.tick_left.ensures.value, (ap says_tick (sym c.in-Delivered.is) ∙ said, c.tick_left.ensures.out_after))

@@ -1,13 +1,9 @@
 -- The count is that of those looked at. Assumes nothing.
-use borrow.Author.Rules.{rules}
-use native.Mathlib.Omega.{arith}
-use mathlib.Core.Path.{◌≡◌, refl, sym, ap, ◌∙◌}
-use Prim.Native.Nat.{ℕ, ◌+◌, ◌-◌, ◌≤◌}
+use mathlib.Core.Path.{◌≡◌}
+use Prim.Native.Nat.{◌-◌, ◌≤◌}
 use lib.ListN.{length, take}
 use Rattle.lists.specs.Lists.{keep}
-use Rattle.host.specs.State.{no_held}
 use Rattle.host.specs.Tick.{due}
-use Rattle.lists.proofs.Loops.{keep_no, count_yes}
 use Rattle.host.proofs.ticking.count_due.Given as goal
 
 abbrev pub invariant-loop-i : goal.invariant-loop-i

@@ -1,7 +1,7 @@
 -- Of those looked at, the due ones are written and the others are kept, each behind those before it. Assumes nothing.
 use borrow.Author.Rules.{rules}
 use native.Mathlib.Omega.{arith}
-use mathlib.Core.Path.{◌≡◌, refl, sym, ap, ◌∙◌}
+use mathlib.Core.Path.{◌≡◌, sym, ap, ◌∙◌}
 use Prim.Native.Nat.{ℕ, ◌+◌, ◌-◌, ◌*◌, ◌≤◌, ◌<◌}
 use mathlib.Core.Bool.{Bool, true, false, not}
 use mathlib.Core.List.{List, ◌++◌}
@@ -20,7 +20,7 @@ pub put_entry-requires : goal.put_entry-requires
 put_entry-requires c =
     let a = c.args in
     let s = c.loop-i in
-    let l : List Held = a.t2 in
+    let l : List Held = a.history in
     let p = due a.bound a.u.0 in
     let w : Held → Bool = λ e. not (p e) in
     let test : p (get_or l s.i no_held) ≡ true = sym c.is_due.ensures ∙ c.if-is_due.true in
@@ -34,7 +34,7 @@ pub loop-i-preserved-then-is_due : goal.loop-i-preserved-then-is_due
 loop-i-preserved-then-is_due c =
     let a = c.args in
     let s = c.loop-i in
-    let l : List Held = a.t2 in
+    let l : List Held = a.history in
     let p = due a.bound a.u.0 in
     let w : Held → Bool = λ e. not (p e) in
     let e : Held = get_or l s.i no_held in
@@ -47,7 +47,7 @@ loop-i-preserved-then-is_due c =
       s.invariant.2 ∙ sym (ap length no),
       omega arith,
       s.invariant.4 ∙ ap (λ (t : List Held). pad 32 no_held t) (sym no),
-      c.put_entry.auto.0 ∙ s.invariant.5,
+      c.put_entry.auto.out ∙ s.invariant.5,
       c.put_entry.ensures
           ∙ entries_turn (keep p (take s.i l)) e s.out a.out.now s.delivered s.invariant.1 s.invariant.6
           ∙ ap (λ (t : List Held). entries_of t ++ drop (16 * (s.delivered + 1)) a.out.now) (sym yes),
@@ -57,7 +57,7 @@ pub loop-i-preserved : goal.loop-i-preserved
 loop-i-preserved c =
     let a = c.args in
     let s = c.loop-i in
-    let l : List Held = a.t2 in
+    let l : List Held = a.history in
     let p = due a.bound a.u.0 in
     let w : Held → Bool = λ e. not (p e) in
     let e : Held = get_or l s.i no_held in

@@ -1,19 +1,14 @@
 -- Of those looked at, the due ones are written and the others are kept, each behind those before it. Assumes nothing.
-use borrow.Author.Rules.{rules}
-use native.Mathlib.Omega.{arith}
-use mathlib.Core.Path.{◌≡◌, refl, sym, ap, ◌∙◌}
-use Prim.Native.Nat.{ℕ, ◌+◌, ◌-◌, ◌*◌, ◌≤◌, ◌<◌}
-use mathlib.Core.Bool.{Bool, true, false, not}
-use mathlib.Core.List.{List, ◌++◌}
-use lib.ListN.{length, take, drop, get_or, set}
+use mathlib.Core.Path.{◌≡◌}
+use Prim.Native.Nat.{◌+◌, ◌-◌, ◌*◌, ◌≤◌}
+use mathlib.Core.Bool.{not}
+use mathlib.Core.List.{◌++◌}
+use lib.ListN.{length, take, drop}
 use Rattle.host.specs.declared.Held.{Held}
 use Rattle.lists.specs.Lists.{keep, pad}
-use Rattle.lists.proofs.Places.{pad_more}
 use Rattle.host.specs.State.{no_held}
 use Rattle.host.specs.Entries.{entries_of}
 use Rattle.host.specs.Tick.{due}
-use Rattle.lists.proofs.Loops.{keep_yes, keep_no, count_yes, keep_grows}
-use Rattle.host.proofs.Writes.{entries_turn}
 use Rattle.host.proofs.ticking.deliver.Given as goal
 
 abbrev pub invariant-loop-i : goal.invariant-loop-i

@@ -1,7 +1,4 @@
 -- None, or as many as are counted. Assumes nothing.
-use borrow.Author.Rules.{rules}
-use mathlib.Core.Path.{sym, ◌∙◌}
-use borrow.Author.Tests.{eqb-true}
 use Rattle.host.proofs.Facts.{sound_is}
 use Rattle.host.proofs.ticking.due_count.Goals as goal
 

@@ -1,5 +1,4 @@
 -- The chain of checks is the order of checks. Assumes nothing.
-use borrow.Author.Rules.{rules}
 use mathlib.Core.Path.{refl, ap, ◌∙◌}
 use mathlib.Core.Bool.{not}
 use Rattle.lists.proofs.TestLaws.{or_step, first_chain}

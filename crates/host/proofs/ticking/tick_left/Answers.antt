@@ -2,7 +2,7 @@
 use borrow.Author.Rules.{rules}
 use mathlib.Core.Path.{◌≡◌, sym, ◌∙◌}
 use borrow.Author.Tests.{eqb-true}
-use lib.ListN.{length, length-map}
+use lib.ListN.{length}
 use Rattle.host.specs.Tick.{due_of}
 use Rattle.host.proofs.Facts.{tick_is, is_sound}
 use Rattle.host.proofs.Fronts.{idle, none_written}
@@ -18,3 +18,14 @@ deliver-left-requires c =
     let a = c.args in
     let k = tick_is a.host a.u.0 (length a.out.now) c.requires in
     (k.sound.held, k.fits)
+
+pub returns-then-is_idle : goal.returns-then-is_idle
+returns-then-is_idle c =
+    let a = c.args in
+    let k = tick_is a.host a.u.0 (length a.out.now) c.requires in
+    let n : length a.host.history ≡ 32 = search rules in
+    let none : length (due_of a.host a.u.0) ≡ 0 = eqb-true _ _ (sym c.is_idle.ensures ∙ c.if-is_idle.true) in
+    record {
+      value = rw c.requires (c.later.ensures ∙ sym (idle a.host a.u n k.sound none));
+      out_after = rw c.requires (sym (none_written (due_of a.host a.u.0) a.out.now none));
+    }

@@ -1,10 +1,7 @@
 -- What is left to test is the rest of the places; each turn tests the first. Assumes nothing.
-use borrow.Author.Rules.{rules}
-use mathlib.Core.Path.{refl}
 use Prim.Native.Nat.{◌-◌}
-use Rattle.network.specs.Network.{no_link}
 use Rattle.host.specs.State.{is_no_link}
-use Rattle.lists.proofs.Walks.{Tested, tested_start, tested_turn, tested_end}
+use Rattle.lists.proofs.Walks.{Tested}
 use Rattle.host.proofs.unused.links_unused.Given as goal
 
 abbrev pub invariant-loop-i : goal.invariant-loop-i

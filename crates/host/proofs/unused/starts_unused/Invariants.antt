@@ -1,9 +1,7 @@
 -- What is left to test is the rest of the places; each turn tests the first. Assumes nothing.
-use borrow.Author.Rules.{rules}
-use mathlib.Core.Path.{refl}
 use Prim.Native.Nat.{◌-◌}
-use Rattle.host.specs.State.{no_reading, is_no_reading}
-use Rattle.lists.proofs.Walks.{Tested, tested_start, tested_turn, tested_end}
+use Rattle.host.specs.State.{is_no_reading}
+use Rattle.lists.proofs.Walks.{Tested}
 use Rattle.host.proofs.unused.starts_unused.Given as goal
 
 abbrev pub invariant-loop-i : goal.invariant-loop-i
