@@ -1,8 +1,6 @@
 -- After i turns x is the number in the first i bytes, of which there are 8 at most; past the end all of them are 0. Assumes nothing.
-use mathlib.Core.Path.{◌≡◌, sym}
-use Prim.Native.Nat.{◌≤◌, ◌<◌, ◌-◌, ◌^◌, min}
+use mathlib.Core.Path.{sym}
 use native.Mathlib.Omega.{arith}
-use Rattle.lists.specs.Bytes.{val_at}
 use Rattle.lists.proofs.ByteLaws.{val_none, val_more, digit_lt, digit_fits}
 use Rattle.fields.proofs.Reading.{val_past}
 use Rattle.fields.proofs.read.value_at.Goals as goal
@@ -17,3 +15,13 @@ pub loop-i-preserved : goal.loop-i-preserved
 loop-i-preserved c =
     let l = c.loop-i in
     (omega arith, (cc (l.invariant.1.0, c.byte_at.ensures, val_more _ _ l.i), digit_lt l.x c.byte_at.result l.i l.invariant.1.1 (omega arith)))
+
+pub overflow_mul-x : goal.overflow_mul-x
+overflow_mul-x c =
+    let l = c.loop-i in
+    record { fits = omega (arith, digit_fits l.x 0 l.i (omega arith) l.invariant.1.1 (omega arith)) }
+
+pub overflow_add-x : goal.overflow_add-x
+overflow_add-x c =
+    let l = c.loop-i in
+    record { fits = digit_fits l.x c.byte_at.result l.i (omega arith) l.invariant.1.1 (omega arith) }

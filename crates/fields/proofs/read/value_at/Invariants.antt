@@ -1,10 +1,7 @@
 -- After i turns x is the number in the first i bytes, of which there are 8 at most; past the end all of them are 0. Assumes nothing.
-use mathlib.Core.Path.{◌≡◌, sym}
-use Prim.Native.Nat.{◌≤◌, ◌<◌, ◌-◌, ◌^◌, min}
-use native.Mathlib.Omega.{arith}
+use mathlib.Core.Path.{◌≡◌}
+use Prim.Native.Nat.{◌≤◌, ◌<◌, ◌-◌, ◌^◌}
 use Rattle.lists.specs.Bytes.{val_at}
-use Rattle.lists.proofs.ByteLaws.{val_none, val_more, digit_lt, digit_fits}
-use Rattle.fields.proofs.Reading.{val_past}
 use Rattle.fields.proofs.read.value_at.Given as goal
 
 abbrev pub invariant-loop-i : goal.invariant-loop-i

@@ -1,11 +1,9 @@
 -- What is still to be stored, put upon what is there, is the whole. Assumes nothing.
 use borrow.Author.Rules.{rules}
 use native.Mathlib.Omega.{arith}
-use mathlib.Core.Path.{◌≡◌, refl, sym, ap, ◌∙◌}
-use Prim.Native.Nat.{ℕ, ◌≤◌}
-use lib.ListN.{length, length-set}
+use mathlib.Core.Path.{sym, ap, ◌∙◌}
+use lib.ListN.{length-set}
 use lib.Seq.{sets}
-use Rattle.lists.specs.Bytes.{be}
 use Rattle.lists.proofs.ByteLaws.{be_none}
 use Rattle.fields.proofs.Placing.{sets_last}
 use Rattle.fields.proofs.write.store.Goals as goal
