@@ -21,11 +21,14 @@ const GONE: u8 = 4;
 
 // Three for each kind of order: on an absent image, an offered one, a halted one.
 const EFFECTS: [u8; 12] = [
-    OFFERED, // publish
-    OFFERED, AS_BEFORE, HALTED, // halt
-    HALTED, AS_BEFORE, AS_BEFORE, // resume
-    AS_BEFORE, RESUMED, AS_BEFORE, // withdraw
-    GONE, GONE,
+    // publish
+    OFFERED, OFFERED, AS_BEFORE,
+    // halt
+    HALTED, HALTED, AS_BEFORE,
+    // resume
+    AS_BEFORE, AS_BEFORE, RESUMED,
+    // withdraw
+    AS_BEFORE, GONE, GONE,
 ];
 
 // How the image of an order stands after it.

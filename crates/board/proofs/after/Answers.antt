@@ -1,5 +1,4 @@
 -- The image is settled as the table says of how it stood. Assumes nothing.
-use borrow.Author.Rules.{rules}
 use Rattle.board.specs.Board.{images_after}
 use Rattle.board.proofs.after.Goals as goal
 

@@ -1,7 +1,6 @@
 -- By cases on whether the image stood there and will. Assumes nothing.
-use borrow.Author.Rules.{rules}
 use mathlib.Core.Path.{sym, ◌∙◌}
-use Rattle.board.proofs.Makings.{found, kept, full, put_in_fits, taken_out, replaced}
+use Rattle.board.proofs.Makings.{kept, full, put_in_fits, taken_out, replaced}
 use native.Mathlib.Omega.{arith}
 use Rattle.board.proofs.places.made.Goals as goal
 

@@ -1,8 +1,6 @@
 -- The invariant: every place passed has a smaller image. Assumes nothing.
 use Prim.Native.Nat.{◌-◌}
-use Rattle.board.proofs.Placing.{Sought, seek_start, seek_turn, seek_end}
-use borrow.Author.Rules.{rules}
-use native.Mathlib.Omega.{arith}
+use Rattle.board.proofs.Placing.{Sought}
 use Rattle.board.proofs.places.place_of.Given as goal
 
 abbrev pub invariant-loop-i : goal.invariant-loop-i

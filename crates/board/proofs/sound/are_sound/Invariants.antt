@@ -1,14 +1,14 @@
 -- What is left decides: a place that passes is left out, and one that fails decides the whole. Assumes nothing.
-use borrow.Author.Rules.{rules}
-use native.Mathlib.Omega.{arith}
-use mathlib.Core.Path.{refl, sym}
 use mathlib.Core.Bool.{true}
 use Prim.Native.Nat.{◌-◌}
-use Rattle.lists.proofs.Histories.{Walked, walk_start, unfit, unordered, walk_turn, walk_end}
-use Rattle.lists.proofs.TestLaws.{all_miss, each_all}
-use Rattle.lists.proofs.Walks.{Tested, tested_start, tested_miss, tested_more, tested_end}
-use Rattle.board.specs.Board.{place_fits, is_blank, blank, before}
+use Rattle.lists.proofs.Histories.{Walked}
+use Rattle.lists.proofs.Walks.{Tested}
+use Rattle.board.specs.Board.{place_fits, is_blank, before}
 use Rattle.board.proofs.sound.are_sound.Given as goal
+
+-- a history's walk has one test more; here it is that of fitting again
+abbrev pub invariant-loop-i : goal.invariant-loop-i
+invariant-loop-i l = Walked place_fits before place_fits l.places l.count l.last l.i
 
 abbrev pub decreases-loop-i : goal.decreases-loop-i
 decreases-loop-i l = l.count - l.i

@@ -1,5 +1,4 @@
 -- The tests in their order; the walk is made only where the count is in range. Assumes nothing.
-use borrow.Author.Rules.{rules}
 use borrow.Author.Tests.{le-leb, lt-leb}
 use Rattle.lists.specs.Tests.{all_of}
 use Rattle.board.specs.Board.{sound}
