@@ -33,7 +33,7 @@ use Rattle.host.proofs.Keeps.{starts_below}
 use Rattle.host.proofs.Fresh.{cleared_link}
 use Rattle.host.proofs.Sets.{set_has}
 use Rattle.host.proofs.Outcomes.{after_call, starts_are}
-use Rattle.diffusion.specs.Hosts.{Carried, Call, start, receive, after, Unrefused, Takes, Sends, Refuses}
+use Rattle.diffusion.specs.Hosts.{Carried, start, receive, after, Unrefused, Takes, Sends, Refuses}
 use Rattle.diffusion.specs.Ours.{shown, carried, called, backwards, ours}
 use Rattle.diffusion.proofs.Laws.{W, Owns, Fourth, Laws}
 use Rattle.diffusion.proofs.Answered.{unrefused_is, is_sent, refusal_is}

@@ -5,7 +5,7 @@ use mathlib.Core.Logic.{◌⊎◌, inl, inr}
 use Prim.Native.Nat.{ℕ, ◌+◌, ◌*◌, ◌≤◌, ◌<◌}
 use native.Mathlib.Decide.{dec_le}
 use native.Mathlib.Omega.{arith}
-use Rattle.network.specs.Network.{n, π, δ, worst, Survivor}
+use Rattle.network.specs.Network.{π, δ, worst, Survivor}
 use Rattle.network.specs.declared.Plan.{Plan}
 use Rattle.diffusion.specs.Hosts.{Carried, Copy, Host}
 use Rattle.diffusion.specs.Run.{Story, reading, calls_at, ticked, Takes-at, Sends-at, Handed-at}

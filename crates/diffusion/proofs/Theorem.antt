@@ -202,7 +202,7 @@ module _ (P : Plan) (F : Sturdy P) (H : Host) (L : Laws P H) (B : FirstRules P H
   never_14 : (p t : ℕ) → p < n P → Refuses-at H R p t 14 → ⊥
   never_14 p t h =
       never 14 p t h
-      (λ s o w q. (let f = L.Full-start p (reading R p t) s o w.agreed.ok q in Spread.roomy_start P F H L B R M p t o s w.list h f.1 w.agreed w.on f.2 f.3 f.0))
+      (λ s o w q. (let f = L.full_start p (reading R p t) s o w.agreed.ok q in Spread.roomy_start P F H L B R M p t o s w.list h f.1 w.agreed w.on f.2 f.3 f.0))
       (λ s k c w r q. (let f = B.full_receive p (reading R p t) s k c w.agreed.ok q in
       let l = r.1 in
       Spread.roomy P F H L B R M p t c.what s w.list h f.1 w.agreed w.on
