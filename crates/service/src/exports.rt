@@ -18,8 +18,7 @@ use crate::plans::left_by_plan;
 use crate::{BoardMemory, HostMemory, PlanMemory};
 use clock::Reading;
 
-#[unsafe(no_mangle)]
-pub extern "C" fn loom_plan(memory: &mut PlanMemory) -> u64
+pub fn loom_plan(memory: &mut PlanMemory) -> u64
     ensures { (memory.new ≡ plan_left memory.old) × (result ≡ (planned memory.old.plan).refusal) }
 {
     let left = left_by_plan(*memory);
@@ -28,8 +27,7 @@ pub extern "C" fn loom_plan(memory: &mut PlanMemory) -> u64
 }
 
 // Makes a host of the plan that stands in the memory.
-#[unsafe(no_mangle)]
-pub extern "C" fn loom_make(memory: &mut HostMemory, rules: u8, own: u8) -> u64
+pub fn loom_make(memory: &mut HostMemory, rules: u8, own: u8) -> u64
     ensures { (memory.new ≡ make_left memory.old rules own) × (result ≡ make_refusal memory.old.plan rules own) }
 {
     let left = left_by_make(*memory, rules, own);
@@ -37,8 +35,7 @@ pub extern "C" fn loom_make(memory: &mut HostMemory, rules: u8, own: u8) -> u64
     left.answer
 }
 
-#[unsafe(no_mangle)]
-pub extern "C" fn loom_start(
+pub fn loom_start(
     memory: &mut HostMemory,
     u: u64,
     kind: u8,
@@ -52,8 +49,7 @@ pub extern "C" fn loom_start(
     left.answer
 }
 
-#[unsafe(no_mangle)]
-pub extern "C" fn loom_receive(
+pub fn loom_receive(
     memory: &mut HostMemory,
     u: u64,
     link: u8,
@@ -71,8 +67,7 @@ pub extern "C" fn loom_receive(
     left.answer
 }
 
-#[unsafe(no_mangle)]
-pub extern "C" fn loom_tick(memory: &mut HostMemory, u: u64, out: &mut [u8]) -> u64
+pub fn loom_tick(memory: &mut HostMemory, u: u64, out: &mut [u8]) -> u64
     ensures { (memory.new ≡ call_left memory.old (record { 0 = u }) (ticks (length out.old))) × ((result ≡ tick_number (tick_says (host_from memory.old) u (length out.old))) × (out.new ≡ tick_list (host_from memory.old) u out.old)) }
 {
     let found = to_tick(*memory, u, out.len());
@@ -87,8 +82,7 @@ pub extern "C" fn loom_tick(memory: &mut HostMemory, u: u64, out: &mut [u8]) -> 
     found.number
 }
 
-#[unsafe(no_mangle)]
-pub extern "C" fn loom_apply(memory: &mut BoardMemory, kind: u8, image: u32, share: u16) -> u64
+pub fn loom_apply(memory: &mut BoardMemory, kind: u8, image: u32, share: u16) -> u64
     ensures { (memory.new ≡ order_left memory.old (order_from kind image share)) × (result ≡ board_refusal (board_from memory.old) (order_from kind image share)) }
 {
     let left = left_by_order(*memory, kind, image, share);

@@ -11,8 +11,7 @@ use message::{Found, Got, Message, Written};
 use report::Told;
 
 // Writes a message; answers its length above the refusal's byte.
-#[unsafe(no_mangle)]
-pub extern "C" fn loom_write(
+pub fn loom_write(
     rules: u8,
     stamp: u64,
     source: u8,
@@ -39,8 +38,7 @@ pub extern "C" fn loom_write(
 }
 
 // Reads a message: stamp, source, hop, kind, image, share, and the place and the size of the order's bytes, as the first eight of the lent numbers.
-#[unsafe(no_mangle)]
-pub extern "C" fn loom_read(rules: u8, bytes: &[u8], out: &mut [u64]) -> u64
+pub fn loom_read(rules: u8, bytes: &[u8], out: &mut [u64]) -> u64
     ensures { (result ≡ read_answer rules bytes.now (length out.old)) × (out.new ≡ read_left rules bytes.now out.old) }
 {
     let got = message::read(rules, bytes);
@@ -85,8 +83,7 @@ fn put_numbers(numbers: [u64; 8], out: &mut [u64])
 }
 
 // Replays a schedule and writes the report's text; answers its length above the refusal's byte.
-#[unsafe(no_mangle)]
-pub extern "C" fn loom_replay(bytes: &[u8], out: &mut [u8]) -> u64
+pub fn loom_replay(bytes: &[u8], out: &mut [u8]) -> u64
     ensures { (result ≡ pair_number (told (reported bytes.now) out.old)) × (out.new ≡ left (reported bytes.now) out.old) }
 {
     let answer = report::report(bytes, out);
