@@ -2,7 +2,6 @@
 pub mod WriteLaws
 mod ReadLaws
 mod OrderLaws
-pub mod Kept
 pub mod RoundTrip
 pub mod FieldByField
 pub mod One

@@ -1,5 +1,5 @@
 -- Field by field from the front, the first verdict that is wrong is the first fault. Assumes nothing.
-use mathlib.Core.Path.{◌≡◌, ◌∙◌}
+use mathlib.Core.Path.{◌∙◌}
 use borrow.Author.Tests.{eq-eqb, ne_eqb}
 use Rattle.message.proofs.ReadLaws.{stamp_wrong, source_wrong, past_source, hop_wrong, order_second, order_first}
 use Rattle.message.proofs.reading.judge.Goals as goal

@@ -1,5 +1,5 @@
 -- The order's own faults come first, and then what follows it. Assumes nothing.
-use mathlib.Core.Path.{◌≡◌, sym, ap, ◌∙◌}
+use mathlib.Core.Path.{sym, ap, ◌∙◌}
 use native.Mathlib.Omega.{arith}
 use Rattle.fields.specs.Faults.{verdict}
 use Rattle.message.proofs.ReadLaws.{order_wrong, left_over, none_left}

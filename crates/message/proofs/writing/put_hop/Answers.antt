@@ -1,7 +1,6 @@
 -- By whether the rule set has a hop. Assumes nothing.
-use borrow.Author.Tests.{eq-eqb, ne_eqb}
+use borrow.Author.Tests.{ne_eqb}
 use Rattle.fields.proofs.Placing.{placed_none}
-use borrow.Author.Rules.{rules}
 use Rattle.message.proofs.writing.put_hop.Goals as goal
 
 pub returns-else-rules-eq2 : goal.returns-else-rules-eq2
