@@ -10,7 +10,7 @@ fn main() {
     let archive = folder.join("libservice.a");
     println!("cargo:rerun-if-changed={}", archive.display());
     if !archive.is_file() {
-        eprintln!("target/staticlib/libservice.a is not there: run `rt staticlib service` first");
+        eprintln!("target/staticlib/libservice.a is not there: run `bindings/run` first");
         exit(1);
     }
     println!("cargo:rustc-link-search=native={}", folder.display());
