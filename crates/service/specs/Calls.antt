@@ -2,7 +2,7 @@
 use Rattle.std.specs.Prelude.{cond, List, [], ◌∷◌, ◌++◌, ℕ, ◌+◌, ◌*◌, ltb, eqb, length, drop}
 use Rattle.clock.specs.declared.Reading.{Reading}
 use Rattle.orders.specs.Orders.{kind_of, image_of, share_of}
-use Rattle.network.specs.Network.{planned, Said}
+use Rattle.network.specs.Network.{planned}
 use Rattle.host.specs.Answers.{unless}
 use Rattle.host.specs.Answers as host
 use Rattle.host.specs.Make.{make_refusal, fresh}

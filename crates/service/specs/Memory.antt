@@ -1,5 +1,5 @@
 -- What flat memory stands for: a host's state, a board's, and back. Assumes nothing.
-use Rattle.std.specs.Prelude.{Bool, cond, ◌&&◌, List, map, ℕ, leb, ltb, eqb}
+use Rattle.std.specs.Prelude.{Bool, cond, ◌&&◌, map, ℕ, leb, ltb, eqb}
 use Rattle.orders.specs.declared.Order.{Order}
 use Rattle.orders.specs.declared.Order.TheVariants.{Publish}
 use Rattle.orders.specs.Orders.{kind_of, image_of, share_of, is_kind, is_share, share_fits, order_of}

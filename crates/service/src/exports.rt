@@ -35,13 +35,7 @@ pub fn loom_make(memory: &mut HostMemory, rules: u8, own: u8) -> u64
     left.answer
 }
 
-pub fn loom_start(
-    memory: &mut HostMemory,
-    u: u64,
-    kind: u8,
-    image: u32,
-    share: u16,
-) -> u64
+pub fn loom_start(memory: &mut HostMemory, u: u64, kind: u8, image: u32, share: u16) -> u64
     ensures { (memory.new ≡ call_left memory.old (record { 0 = u }) (start (order_from kind image share))) × (result ≡ send_number (start_says (host_from memory.old) u (order_from kind image share))) }
 {
     let left = left_by_start(*memory, u, kind, image, share);
@@ -77,7 +71,8 @@ pub fn loom_tick(memory: &mut HostMemory, u: u64, out: &mut [u8]) -> u64
     }
     let rest = after_tick(*memory, Reading(u), found.count, out);
     memory.last = found.last;
-    memory.history = rest.history;
+    let history = rest.history;
+    memory.history = history;
     memory.held = rest.held;
     found.number
 }
