@@ -4,26 +4,27 @@ ghost use Rattle.std.specs.Prelude.{◌<◌};
 use crate::{networks, timing};
 use clock::Reading;
 use host::{Held, Host, SendAnswer, TickAnswer};
-use libc::STDOUT_FILENO;
 use orders::Order;
+use std::io;
+use std::time::CpuClock;
 
 // The octahedron's host 2, whose Δ is 33, with halts received at reading 1000 under the stamps from 1000 on.
-pub(crate) fn times(rounds: u64) {
+pub(crate) fn times(rt: &(impl Print + CpuClock), rounds: u64) -> io::Result<()> {
     let none = with_halts(0);
     let most = with_halts(31);
     let full = with_halts(32);
-    sound(b"soundness, 0 held", none, rounds);
-    sound(b"soundness, 32 held", full, rounds);
-    tick(b"idle tick, 0 held", none, 1000, rounds);
-    tick(b"idle tick, 32 held", full, 1000, rounds);
-    tick(b"delivering tick, 1 held", with_halts(1), 1100, rounds);
-    tick(b"delivering tick, 32 held", full, 1100, rounds);
-    start(b"start, 0 held", none, rounds);
-    start(b"start, 31 held", most, rounds);
-    receive(b"receive, 0 held", none, 995, rounds);
-    receive(b"receive, 31 held", most, 995, rounds);
-    receive(b"receive of a known copy, 32 held", full, 1000, rounds);
-    receive(b"receive past the bound, 32 held", full, 900, rounds);
+    sound(rt, "soundness, 0 held", none, rounds)?;
+    sound(rt, "soundness, 32 held", full, rounds)?;
+    tick(rt, "idle tick, 0 held", none, 1000, rounds)?;
+    tick(rt, "idle tick, 32 held", full, 1000, rounds)?;
+    tick(rt, "delivering tick, 1 held", with_halts(1), 1100, rounds)?;
+    tick(rt, "delivering tick, 32 held", full, 1100, rounds)?;
+    start(rt, "start, 0 held", none, rounds)?;
+    start(rt, "start, 31 held", most, rounds)?;
+    receive(rt, "receive, 0 held", none, 995, rounds)?;
+    receive(rt, "receive, 31 held", most, 995, rounds)?;
+    receive(rt, "receive of a known copy, 32 held", full, 1000, rounds)?;
+    receive(rt, "receive past the bound, 32 held", full, 900, rounds)
 }
 
 fn with_halts(count: u64) -> Host {
@@ -46,12 +47,12 @@ fn halt(stamp: u64) -> Held {
     }
 }
 
-fn sound(name: &[u8], h: Host, rounds: u64) {
-    io::write_all(STDOUT_FILENO, name);
+fn sound(rt: &(impl Print + CpuClock), name: &str, h: Host, rounds: u64) -> io::Result<()> {
+    print!(rt; "{name}")?;
     if host::is_sound(h) {
-        io::write_all(STDOUT_FILENO, b": sound");
+        print!(rt; ": sound")?;
     }
-    let from = timing::processor_time();
+    let from = timing::processor_time(rt)?;
     let mut g = h;
     let mut sum: u64 = 0;
     let mut i: u64 = 0;
@@ -63,17 +64,22 @@ fn sound(name: &[u8], h: Host, rounds: u64) {
         }
         i += 1;
     }
-    timing::end_line(rounds, from, sum);
+    timing::end_line(rt, rounds, from, sum)
 }
 
-fn tick(name: &[u8], h: Host, reading: u64, rounds: u64) {
+fn tick(
+    rt: &(impl Print + CpuClock),
+    name: &str,
+    h: Host,
+    reading: u64,
+    rounds: u64,
+) -> io::Result<()> {
     let mut out = [0u8; 512];
-    io::write_all(STDOUT_FILENO, name);
-    io::write_all(STDOUT_FILENO, b": delivers ");
+    print!(rt; "{name}: delivers ")?;
     let first = host::after_tick(h, Reading(reading), &mut out);
     let told = first.answer;
-    io::print_decimal(STDOUT_FILENO, delivered(told));
-    let from = timing::processor_time();
+    rt.print(delivered(told))?;
+    let from = timing::processor_time(rt)?;
     let mut sum: u64 = 0;
     let mut i: u64 = 0;
     while i < rounds {
@@ -81,7 +87,7 @@ fn tick(name: &[u8], h: Host, reading: u64, rounds: u64) {
         sum = sum % 1_000_000_000 + tick_once(h, u, &mut out);
         i += 1;
     }
-    timing::end_line(rounds, from, sum);
+    timing::end_line(rt, rounds, from, sum)
 }
 
 fn tick_once(h: Host, u: Reading, out: &mut [u8]) -> u64
@@ -92,19 +98,19 @@ fn tick_once(h: Host, u: Reading, out: &mut [u8]) -> u64
     delivered(answer) + r.host.last.0 % 2
 }
 
-fn start(name: &[u8], h: Host, rounds: u64) {
-    io::write_all(STDOUT_FILENO, name);
+fn start(rt: &(impl Print + CpuClock), name: &str, h: Host, rounds: u64) -> io::Result<()> {
+    print!(rt; "{name}")?;
     let first = host::after_start(h, Reading(1000), Order::Halt(7));
     let told = first.answer;
-    show(told);
-    let from = timing::processor_time();
+    show(rt, told)?;
+    let from = timing::processor_time(rt)?;
     let mut sum: u64 = 0;
     let mut i: u64 = 0;
     while i < rounds {
         sum = sum % 1_000_000_000 + start_once(h, Reading(1000 + i % 4));
         i += 1;
     }
-    timing::end_line(rounds, from, sum);
+    timing::end_line(rt, rounds, from, sum)
 }
 
 fn start_once(h: Host, u: Reading) -> u64
@@ -115,19 +121,25 @@ fn start_once(h: Host, u: Reading) -> u64
     sent(answer) + r.host.last.0 % 2
 }
 
-fn receive(name: &[u8], h: Host, stamp: u64, rounds: u64) {
-    io::write_all(STDOUT_FILENO, name);
+fn receive(
+    rt: &(impl Print + CpuClock),
+    name: &str,
+    h: Host,
+    stamp: u64,
+    rounds: u64,
+) -> io::Result<()> {
+    print!(rt; "{name}")?;
     let first = host::after_receive(h, Reading(1000), 1, 0, halt(stamp));
     let told = first.answer;
-    show(told);
-    let from = timing::processor_time();
+    show(rt, told)?;
+    let from = timing::processor_time(rt)?;
     let mut sum: u64 = 0;
     let mut i: u64 = 0;
     while i < rounds {
         sum = sum % 1_000_000_000 + receive_once(h, halt(stamp % 1_000_000 + i % 4));
         i += 1;
     }
-    timing::end_line(rounds, from, sum);
+    timing::end_line(rt, rounds, from, sum)
 }
 
 fn receive_once(h: Host, copy: Held) -> u64
@@ -156,15 +168,9 @@ fn sent(answer: SendAnswer) -> u64
     }
 }
 
-fn show(answer: SendAnswer) {
+fn show(rt: &impl Print, answer: SendAnswer) -> io::Result<()> {
     match answer {
-        SendAnswer::Sent { links, hop: _ } => {
-            io::write_all(STDOUT_FILENO, b": sends on the set ");
-            io::print_decimal(STDOUT_FILENO, links as u64);
-        }
-        SendAnswer::Refused(r) => {
-            io::write_all(STDOUT_FILENO, b": refused ");
-            io::print_decimal(STDOUT_FILENO, host::number_of(r) as u64);
-        }
+        SendAnswer::Sent { links, hop: _ } => print!(rt; ": sends on the set {links}"),
+        SendAnswer::Refused(r) => print!(rt; ": refused {}", host::number_of(r)),
     }
 }

@@ -8,8 +8,10 @@ mod networks;
 mod planning;
 mod timing;
 
-fn main() {
-    let rounds = timing::rounds();
-    planning::times(rounds);
-    hosts::times(rounds % 1_000_000 * 500);
+use std::io;
+
+fn main(rt: HostRuntime) -> io::Result<()> {
+    let rounds = timing::rounds(rt.stdin())?;
+    planning::times(&rt, rounds)?;
+    hosts::times(&rt, rounds % 1_000_000 * 500)
 }

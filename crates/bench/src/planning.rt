@@ -2,30 +2,31 @@
 ghost use Rattle.std.specs.Prelude.{◌<◌};
 
 use crate::{networks, timing};
-use libc::STDOUT_FILENO;
 use network::{Plan, Planned};
+use std::io;
+use std::time::CpuClock;
 
-pub(crate) fn times(rounds: u64) {
-    timed(b"cube 0 0", rounds, networks::cube(0, 0));
-    timed(b"cube 1 1", rounds, networks::cube(1, 1));
-    timed(b"cube 2 0", rounds, networks::cube(2, 0));
-    timed(b"cube 0 2", rounds, networks::cube(0, 2));
-    timed(b"cube 6 12", rounds, networks::cube(6, 12));
-    timed(b"octahedron 1 2", rounds, networks::octahedron(1, 2));
-    timed(b"octahedron 2 1", rounds, networks::octahedron(2, 1));
-    timed(b"octahedron 3 0", rounds, networks::octahedron(3, 0));
-    timed(b"octahedron 0 3", rounds, networks::octahedron(0, 3));
-    timed(b"octahedron 0 4", rounds, networks::octahedron(0, 4));
-    timed(b"octahedron 2 2", rounds, networks::octahedron(2, 2));
-    timed(b"octahedron 4 12", rounds, networks::octahedron(4, 12));
+pub(crate) fn times(rt: &(impl Print + CpuClock), rounds: u64) -> io::Result<()> {
+    timed(rt, "cube 0 0", rounds, networks::cube(0, 0))?;
+    timed(rt, "cube 1 1", rounds, networks::cube(1, 1))?;
+    timed(rt, "cube 2 0", rounds, networks::cube(2, 0))?;
+    timed(rt, "cube 0 2", rounds, networks::cube(0, 2))?;
+    timed(rt, "cube 6 12", rounds, networks::cube(6, 12))?;
+    timed(rt, "octahedron 1 2", rounds, networks::octahedron(1, 2))?;
+    timed(rt, "octahedron 2 1", rounds, networks::octahedron(2, 1))?;
+    timed(rt, "octahedron 3 0", rounds, networks::octahedron(3, 0))?;
+    timed(rt, "octahedron 0 3", rounds, networks::octahedron(0, 3))?;
+    timed(rt, "octahedron 0 4", rounds, networks::octahedron(0, 4))?;
+    timed(rt, "octahedron 2 2", rounds, networks::octahedron(2, 2))?;
+    timed(rt, "octahedron 4 12", rounds, networks::octahedron(4, 12))
 }
 
-fn timed(name: &[u8], rounds: u64, p: Plan) {
-    io::write_all(STDOUT_FILENO, name);
-    show(network::planning::plan(p));
-    let from = timing::processor_time();
+fn timed(rt: &(impl Print + CpuClock), name: &str, rounds: u64, p: Plan) -> io::Result<()> {
+    print!(rt; "{name}")?;
+    show(rt, network::planning::plan(p))?;
+    let from = timing::processor_time(rt)?;
     let sum = planned(p, rounds);
-    timing::end_line(rounds, from, sum);
+    timing::end_line(rt, rounds, from, sum)
 }
 
 // The sum of the bounds found in so many rounds, each with another delay: no round's work is that of the round before.
@@ -52,19 +53,15 @@ fn bound(p: Planned) -> u64
     }
 }
 
-fn show(p: Planned) {
+fn show(rt: &impl Print, p: Planned) -> io::Result<()> {
     match p {
-        Planned::Accepted(b) => {
-            io::write_all(STDOUT_FILENO, b": d ");
-            io::print_decimal(STDOUT_FILENO, b.d as u64);
-        }
-        Planned::OutOfRange => refused(b"1"),
-        Planned::BadLink => refused(b"2"),
-        Planned::Parted => refused(b"3"),
+        Planned::Accepted(b) => print!(rt; ": d {}", b.d),
+        Planned::OutOfRange => refused(rt, "1"),
+        Planned::BadLink => refused(rt, "2"),
+        Planned::Parted => refused(rt, "3"),
     }
 }
 
-fn refused(number: &[u8]) {
-    io::write_all(STDOUT_FILENO, b": refused ");
-    io::write_all(STDOUT_FILENO, number);
+fn refused(rt: &impl Print, number: &str) -> io::Result<()> {
+    print!(rt; ": refused {number}")
 }

@@ -1,13 +1,15 @@
 // What a program is told to do, and the processor time that it takes.
 ghost use Rattle.std.specs.Prelude.{◌<◌};
 
-use libc::{STDIN_FILENO, STDOUT_FILENO};
+use std::io;
+use std::io::Read;
+use std::time::CpuClock;
 
 // How many rounds standard input asks for.
-pub(crate) fn rounds() -> u64 {
-    let mut input = [0u8; 8];
-    libc::read(STDIN_FILENO, &mut input);
-    number(input)
+pub(crate) fn rounds(mut input: impl Read + Drop) -> io::Result<u64> {
+    let mut digits = [0u8; 8];
+    input.read(&mut digits)?;
+    Ok(number(digits))
 }
 
 // The number that the digits say, up to the first byte that is none.
@@ -29,21 +31,23 @@ fn number(digits: [u8; 8]) -> u64 {
 }
 
 // Ends a line; where rounds were asked for, with the nanoseconds of one and a sum over what they answered.
-pub(crate) fn end_line(rounds: u64, from: u64, sum: u64) {
+pub(crate) fn end_line(
+    rt: &(impl Print + CpuClock),
+    rounds: u64,
+    from: u64,
+    sum: u64,
+) -> io::Result<()> {
     if 0 < rounds {
-        let to = processor_time();
-        io::write_all(STDOUT_FILENO, b", ns ");
-        io::print_decimal(STDOUT_FILENO, nanoseconds(from, to) / rounds);
-        io::write_all(STDOUT_FILENO, b", sum ");
-        io::print_decimal(STDOUT_FILENO, sum);
+        let to = processor_time(rt)?;
+        print!(rt; ", ns {}, sum {sum}", nanoseconds(from, to) / rounds)?;
     }
-    io::write_all(STDOUT_FILENO, b"\n");
+    println!(rt)
 }
 
 // The processor time that the program has used, in microseconds.
-pub(crate) fn processor_time() -> u64 {
-    let used = libc::clock();
-    if used > 0 { used as u64 } else { 0 }
+pub(crate) fn processor_time(rt: &impl CpuClock) -> io::Result<u64> {
+    let used = rt.process_cpu_time()?;
+    Ok(used.as_secs() % 1_000_000_000_000 * 1_000_000 + used.subsec_micros() as u64)
 }
 
 fn nanoseconds(from: u64, to: u64) -> u64 {

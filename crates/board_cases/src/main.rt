@@ -8,30 +8,34 @@ mod show;
 
 use board::{Board, Place, Stand};
 use orders::Order;
+use std::io;
 
-fn main() {
-    cells(Stand::Absent);
-    cells(Stand::Offered(30));
-    cells(Stand::Halted(30));
-    cells(Stand::Halted(0));
-    unsound();
-    drawn::full();
-    drawn::many(600);
+fn main(rt: HostRuntime) -> io::Result<()> {
+    cells(&rt, Stand::Absent)?;
+    cells(&rt, Stand::Offered(30))?;
+    cells(&rt, Stand::Halted(30))?;
+    cells(&rt, Stand::Halted(0))?;
+    unsound(&rt)?;
+    drawn::full(&rt)?;
+    drawn::many(&rt, 600)
 }
 
 // Each order on image 7 where it stands so.
-fn cells(stand: Stand) {
+fn cells(rt: &impl Print, stand: Stand) -> io::Result<()> {
     let b = only(7, stand);
-    show::applied(lent::after_order(
-        b,
-        Order::Publish {
-            image: 7,
-            share: 45,
-        },
-    ));
-    show::applied(lent::after_order(b, Order::Halt(7)));
-    show::applied(lent::after_order(b, Order::Resume(7)));
-    show::applied(lent::after_order(b, Order::Withdraw(7)));
+    show::applied(
+        rt,
+        lent::after_order(
+            b,
+            Order::Publish {
+                image: 7,
+                share: 45,
+            },
+        ),
+    )?;
+    show::applied(rt, lent::after_order(b, Order::Halt(7)))?;
+    show::applied(rt, lent::after_order(b, Order::Resume(7)))?;
+    show::applied(rt, lent::after_order(b, Order::Withdraw(7)))
 }
 
 // The board with that image standing so; the empty board where it is absent.
@@ -58,42 +62,51 @@ pub(crate) fn empty() -> Board {
 }
 
 // Each way of not being sound, with an order that would be refused 23: 9 comes first. Then that order on a sound board, and shares at the edge.
-fn unsound() {
+fn unsound(rt: &impl Print) -> io::Result<()> {
     let out = Order::Publish { image: 9, share: 0 };
     let mut b = empty();
     b.count = 17;
-    show::applied(lent::after_order(b, out));
+    show::applied(rt, lent::after_order(b, out))?;
     b.count = 1;
-    show::applied(lent::after_order(b, out));
-    show::applied(lent::after_order(only(0, Stand::Offered(0)), out));
-    show::applied(lent::after_order(only(0, Stand::Offered(101)), out));
-    show::applied(lent::after_order(only(0, Stand::Halted(101)), out));
+    show::applied(rt, lent::after_order(b, out))?;
+    show::applied(rt, lent::after_order(only(0, Stand::Offered(0)), out))?;
+    show::applied(rt, lent::after_order(only(0, Stand::Offered(101)), out))?;
+    show::applied(rt, lent::after_order(only(0, Stand::Halted(101)), out))?;
     b = only(5, Stand::Offered(100));
     b.places[1] = Place {
         image: 5,
         stand: Stand::Halted(100),
     };
-    show::applied(lent::after_order(b, out));
+    show::applied(rt, lent::after_order(b, out))?;
     b.count = 2;
-    show::applied(lent::after_order(b, out));
+    show::applied(rt, lent::after_order(b, out))?;
     b.places[1] = Place {
         image: 6,
         stand: Stand::Halted(100),
     };
-    show::applied(lent::after_order(b, out));
-    show::applied(lent::after_order(
-        b,
-        Order::Publish {
-            image: 9,
-            share: 101,
-        },
-    ));
-    show::applied(lent::after_order(b, Order::Publish { image: 9, share: 1 }));
-    show::applied(lent::after_order(
-        b,
-        Order::Publish {
-            image: 6,
-            share: 101,
-        },
-    ));
+    show::applied(rt, lent::after_order(b, out))?;
+    show::applied(
+        rt,
+        lent::after_order(
+            b,
+            Order::Publish {
+                image: 9,
+                share: 101,
+            },
+        ),
+    )?;
+    show::applied(
+        rt,
+        lent::after_order(b, Order::Publish { image: 9, share: 1 }),
+    )?;
+    show::applied(
+        rt,
+        lent::after_order(
+            b,
+            Order::Publish {
+                image: 6,
+                share: 101,
+            },
+        ),
+    )
 }

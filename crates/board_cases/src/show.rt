@@ -1,54 +1,46 @@
 // A board as a line: its images, each with how it stands and its share.
 use board::{Answer, Applied, Board, Place, Stand};
-use libc::STDOUT_FILENO;
+use std::io;
 
 // The refusal, or the board.
-pub(crate) fn applied(a: Applied) {
+pub(crate) fn applied(rt: &impl Print, a: Applied) -> io::Result<()> {
     let answer = a.answer;
     let b = a.board;
     match answer {
         Answer::Done => {
-            images(b);
+            images(rt, b)?;
         }
         Answer::Unsound => {
-            io::write_all(STDOUT_FILENO, b"refused 9");
+            print!(rt; "refused 9")?;
         }
         Answer::OutOfRange => {
-            io::write_all(STDOUT_FILENO, b"refused 23");
+            print!(rt; "refused 23")?;
         }
     }
-    io::write_all(STDOUT_FILENO, b"\n");
+    println!(rt)
 }
 
-fn images(b: Board) {
+fn images(rt: &impl Print, b: Board) -> io::Result<()> {
     let count = b.count;
     let places = b.places;
-    io::write_all(STDOUT_FILENO, b"board");
+    print!(rt; "board")?;
     let mut i: usize = 0;
     while i < 16 {
         let p = places[i];
         if i < count {
-            place(p);
+            place(rt, p)?;
         }
         i += 1;
     }
+    Ok(())
 }
 
-fn place(p: Place) {
+fn place(rt: &impl Print, p: Place) -> io::Result<()> {
     let stand = p.stand;
-    io::write_all(STDOUT_FILENO, b" ");
-    io::print_decimal(STDOUT_FILENO, p.image as u64);
+    print!(rt; " {}", p.image)?;
     match stand {
-        Stand::Absent => {
-            io::write_all(STDOUT_FILENO, b" absent");
-        }
-        Stand::Offered(share) => {
-            io::write_all(STDOUT_FILENO, b" offered ");
-            io::print_decimal(STDOUT_FILENO, share as u64);
-        }
-        Stand::Halted(share) => {
-            io::write_all(STDOUT_FILENO, b" halted ");
-            io::print_decimal(STDOUT_FILENO, share as u64);
-        }
+        Stand::Absent => print!(rt; " absent"),
+        Stand::Offered(share) => print!(rt; " offered {share}"),
+        Stand::Halted(share) => print!(rt; " halted {share}"),
     }
 }

@@ -5,6 +5,7 @@ use clock::Reading;
 use host::{Held, Host};
 use network::{Link, Plan};
 use orders::{Order, order_of};
+use std::io;
 
 // What is asked: 0 make, 1 start, 2 receive, 3 tick; 4 to 15 set a part of the state, and 16 fills the history.
 #[derive(Clone, Copy)]
@@ -21,14 +22,14 @@ pub(crate) struct Row {
 }
 
 // The host after the call.
-pub(crate) fn made(host: Host, row: Row) -> Host {
+pub(crate) fn made(rt: &impl Print, host: Host, row: Row) -> io::Result<Host> {
     let call = row.call;
     match call {
-        0 => make(row),
-        1 => start(host, row),
-        2 => receive(host, row),
-        3 => tick(host, row),
-        _ => set(host, row),
+        0 => make(rt, row),
+        1 => start(rt, host, row),
+        2 => receive(rt, host, row),
+        3 => tick(rt, host, row),
+        _ => Ok(set(host, row)),
     }
 }
 
@@ -43,21 +44,21 @@ fn order(row: Row) -> Order {
 }
 
 // The network of that number, by the rules and for the host that the row names.
-fn make(row: Row) -> Host {
+fn make(rt: &impl Print, row: Row) -> io::Result<Host> {
     let r = host::make(network(row.source), row.kind, row.share);
     let answer = r.answer;
-    show::made(answer, r.host);
-    r.host
+    show::made(rt, answer, r.host)?;
+    Ok(r.host)
 }
 
-fn start(host: Host, row: Row) -> Host {
+fn start(rt: &impl Print, host: Host, row: Row) -> io::Result<Host> {
     let r = after_start(host, Reading(row.u), order(row));
     let answer = r.answer;
-    show::acted(b"start", answer, r.host);
-    r.host
+    show::acted(rt, "start", answer, r.host)?;
+    Ok(r.host)
 }
 
-fn receive(host: Host, row: Row) -> Host {
+fn receive(rt: &impl Print, host: Host, row: Row) -> io::Result<Host> {
     let copy = Held {
         stamp: Reading(row.stamp),
         source: row.source,
@@ -65,18 +66,18 @@ fn receive(host: Host, row: Row) -> Host {
     };
     let r = after_receive(host, Reading(row.u), row.arrival, row.hop, copy);
     let answer = r.answer;
-    show::acted(b"receive", answer, r.host);
-    r.host
+    show::acted(rt, "receive", answer, r.host)?;
+    Ok(r.host)
 }
 
 // The row's stamp is the length lent.
-fn tick(host: Host, row: Row) -> Host {
+fn tick(rt: &impl Print, host: Host, row: Row) -> io::Result<Host> {
     let mut out = lent();
     let room = (row.stamp % 601) as usize;
     let r = after_tick(host, Reading(row.u), &mut out[..room]);
     let answer = r.answer;
-    show::ticked(answer, &out, r.host);
-    r.host
+    show::ticked(rt, answer, &out, r.host)?;
+    Ok(r.host)
 }
 
 fn lent() -> [u8; 600] {

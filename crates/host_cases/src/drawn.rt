@@ -1,13 +1,15 @@
 // Calls drawn from a seed, close enough to one another that every answer comes often.
 use crate::calls::{Row, made, zero};
+use std::io;
 
-pub(crate) fn many(seed: u64, rules: u8, count: u64) {
-    let mut host = made(zero(), begin(rules));
+pub(crate) fn many(rt: &impl Print, seed: u64, rules: u8, count: u64) -> io::Result<()> {
+    let mut host = made(rt, zero(), begin(rules))?;
     let mut s = seed;
     for _ in 0..count {
-        host = made(host, row(s, host.last.0, rules));
+        host = made(rt, host, row(s, host.last.0, rules))?;
         s = after(s, 12);
     }
+    Ok(())
 }
 
 fn begin(rules: u8) -> Row {

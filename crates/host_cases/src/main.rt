@@ -7,8 +7,10 @@ mod lent;
 mod rows;
 mod show;
 
-fn main() {
-    rows::run();
-    drawn::many(1, 2, 400);
-    drawn::many(2, 1, 400);
+use std::io;
+
+fn main(rt: HostRuntime) -> io::Result<()> {
+    rows::run(&rt, rt.stdin())?;
+    drawn::many(&rt, 1, 2, 400)?;
+    drawn::many(&rt, 2, 1, 400)
 }

@@ -5,7 +5,8 @@ ghost use Rattle.std.specs.Prelude.{◌<◌};
 
 use crate::calls::{Row, made, zero};
 use host::Host;
-use libc::STDIN_FILENO;
+use std::io;
+use std::io::Read;
 
 // A line as far as it is read: its numbers, and the place of the one that is being read.
 #[derive(Clone, Copy)]
@@ -15,28 +16,29 @@ struct Line {
     cells: [u64; 9],
 }
 
-pub(crate) fn run() {
-    let mut text = io::large_buffer();
-    let n = io::read_full(STDIN_FILENO, &mut text);
-    each(&text[..n]);
+pub(crate) fn run(rt: &impl Print, input: impl Read + Drop) -> io::Result<()> {
+    let mut text = [0u8; 65536];
+    let n = io::copy(&mut input.take(65536), &mut &mut text[..])?;
+    each(rt, &text[..n.min(65536) as usize])
 }
 
-fn each(text: &[u8]) {
+fn each(rt: &impl Print, text: &[u8]) -> io::Result<()> {
     let mut host = zero();
     let mut line = empty();
     for i in 0..text.len() {
         let byte = text[i];
-        host = after(host, line, byte);
+        host = after(rt, host, line, byte)?;
         line = with_byte(line, byte);
     }
+    Ok(())
 }
 
 // The host after the call of a line, where the byte ends it.
-fn after(host: Host, line: Line, byte: u8) -> Host {
+fn after(rt: &impl Print, host: Host, line: Line, byte: u8) -> io::Result<Host> {
     if (byte != b'\n') | line.is_comment | (line.at != 8) {
-        return host;
+        return Ok(host);
     }
-    made(host, row(line))
+    made(rt, host, row(line))
 }
 
 fn with_byte(line: Line, byte: u8) -> Line {

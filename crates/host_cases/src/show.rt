@@ -1,71 +1,76 @@
 // A line for each answer.
 use host::{Host, Refusal, SendAnswer, TickAnswer, Verdict, number_of};
-use libc::STDOUT_FILENO;
+use std::io;
 
-pub(crate) fn made(answer: Verdict, host: Host) {
-    io::write_all(STDOUT_FILENO, b"make");
+pub(crate) fn made(rt: &impl Print, answer: Verdict, host: Host) -> io::Result<()> {
+    print!(rt; "make")?;
     match answer {
         Verdict::Clear => {
-            number(host.d as u64);
-            number(host.bound);
+            number(rt, host.d as u64)?;
+            number(rt, host.bound)?;
         }
-        Verdict::Refused(r) => refused(r),
+        Verdict::Refused(r) => refused(rt, r)?,
     }
-    state(host);
+    state(rt, host)
 }
 
-pub(crate) fn acted(call: &[u8], answer: SendAnswer, host: Host) {
-    io::write_all(STDOUT_FILENO, call);
+pub(crate) fn acted(rt: &impl Print, call: &str, answer: SendAnswer, host: Host) -> io::Result<()> {
+    print!(rt; "{call}")?;
     match answer {
         SendAnswer::Sent { links, hop } => {
-            number(links as u64);
-            number(hop as u64);
+            number(rt, links as u64)?;
+            number(rt, hop as u64)?;
         }
-        SendAnswer::Refused(r) => refused(r),
+        SendAnswer::Refused(r) => refused(rt, r)?,
     }
-    state(host);
+    state(rt, host)
 }
 
 // The bytes lent, up to the first that no entry has.
-pub(crate) fn ticked(answer: TickAnswer, out: &[u8; 600], host: Host) {
-    io::write_all(STDOUT_FILENO, b"tick");
+pub(crate) fn ticked(
+    rt: &impl Print,
+    answer: TickAnswer,
+    out: &[u8; 600],
+    host: Host,
+) -> io::Result<()> {
+    print!(rt; "tick")?;
     match answer {
         TickAnswer::Delivered(count) => {
-            number(count as u64);
-            bytes(out, count);
+            number(rt, count as u64)?;
+            bytes(rt, out, count)?;
         }
-        TickAnswer::Refused(r) => refused(r),
+        TickAnswer::Refused(r) => refused(rt, r)?,
     }
-    state(host);
+    state(rt, host)
 }
 
-fn bytes(out: &[u8; 600], count: usize) {
-    io::write_all(STDOUT_FILENO, b":");
+fn bytes(rt: &impl Print, out: &[u8; 600], count: usize) -> io::Result<()> {
+    print!(rt; ":")?;
     for i in 0..600usize {
         if i / 16 < count {
-            byte(out[i]);
+            byte(rt, out[i])?;
         }
     }
+    Ok(())
 }
 
-fn byte(b: u8) {
-    number(b as u64);
+fn byte(rt: &impl Print, b: u8) -> io::Result<()> {
+    number(rt, b as u64)
 }
 
-fn refused(r: Refusal) {
-    io::write_all(STDOUT_FILENO, b" refused");
-    number(number_of(r) as u64);
+fn refused(rt: &impl Print, r: Refusal) -> io::Result<()> {
+    print!(rt; " refused")?;
+    number(rt, number_of(r) as u64)
 }
 
-fn state(host: Host) {
-    io::write_all(STDOUT_FILENO, b",");
-    number(host.held as u64);
-    number(host.started as u64);
-    number(host.last.0);
-    io::write_all(STDOUT_FILENO, b"\n");
+fn state(rt: &impl Print, host: Host) -> io::Result<()> {
+    print!(rt; ",")?;
+    number(rt, host.held as u64)?;
+    number(rt, host.started as u64)?;
+    number(rt, host.last.0)?;
+    println!(rt)
 }
 
-fn number(n: u64) {
-    io::write_all(STDOUT_FILENO, b" ");
-    io::print_decimal(STDOUT_FILENO, n);
+fn number(rt: &impl Print, n: u64) -> io::Result<()> {
+    print!(rt; " {n}")
 }

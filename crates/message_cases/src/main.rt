@@ -10,6 +10,7 @@ ghost use Rattle.std.specs.Prelude.{◌<◌};
 use clock::Reading;
 use message::{Got, Message, Written};
 use orders::Order;
+use std::io;
 
 #[derive(Clone, Copy)]
 struct Case {
@@ -17,20 +18,23 @@ struct Case {
     message: Message,
 }
 
-fn main() {
+fn main(rt: HostRuntime) -> io::Result<()> {
     // Halt of image 7, stamp 100, source 0, first rules.
     let vector = made(1, 100, 0, 0, Order::Halt(7));
     let mut bytes = [0u8; 23];
     message::write(1, vector.message, &mut bytes);
-    text::hex(&bytes);
-    text::line(b"");
-    damage(vector);
-    damage(made(1, 1_099_511_623_679, 7, 0, publish(4_294_967_295, 100)));
-    damage(made(2, 0, 3, 8, Order::Withdraw(0)));
-    damage(made(2, 258, 1, 1, publish(65_536, 1)));
-    refuse();
-    shuffle();
-    mislead();
+    text::hex(&rt, &bytes)?;
+    text::line(&rt, "")?;
+    damage(&rt, vector)?;
+    damage(
+        &rt,
+        made(1, 1_099_511_623_679, 7, 0, publish(4_294_967_295, 100)),
+    )?;
+    damage(&rt, made(2, 0, 3, 8, Order::Withdraw(0)))?;
+    damage(&rt, made(2, 258, 1, 1, publish(65_536, 1)))?;
+    refuse(&rt)?;
+    shuffle(&rt)?;
+    mislead(&rt)
 }
 
 fn made(rules: u8, stamp: u64, source: u8, hop: u8, order: Order) -> Case {
@@ -48,48 +52,52 @@ fn publish(image: u32, share: u8) -> Order {
 }
 
 // Each byte set to each value; each shorter message; each byte after the message.
-fn damage(case: Case) {
+fn damage(rt: &impl Print, case: Case) -> io::Result<()> {
     let mut bytes = [0u8; 32];
     let message = case.message;
     let written = message::write(case.rules, message, &mut bytes);
     let Written::Length(n) = written else {
-        text::line(b"not written");
-        return;
+        return text::line(rt, "not written");
     };
-    places::print(case.rules, sweep::first(&bytes, n));
+    places::print(rt, case.rules, sweep::first(&bytes, n))?;
     let none = sweep::none();
     let one_more = std::num::wrapping_add_usize(n, 1);
     sweep::print(
-        b"damaged",
+        rt,
+        "damaged",
         sweep::each_byte(case.rules, &mut bytes, 0, n, none),
-    );
-    sweep::print(b"cut", sweep::each_cut(case.rules, &bytes, n, none));
+    )?;
+    sweep::print(rt, "cut", sweep::each_cut(case.rules, &bytes, n, none))?;
     sweep::print(
-        b"longer",
+        rt,
+        "longer",
         sweep::each_byte(case.rules, &mut bytes, n, one_more, none),
-    );
+    )
 }
 
 // The refusals of writing, and of reading.
-fn refuse() {
-    text::word(b"write");
-    text::number(write_number(made(0, 0, 0, 0, Order::Halt(7)), 32));
-    text::number(write_number(made(3, 0, 0, 1, Order::Halt(7)), 32));
-    text::number(write_number(made(1, 1_099_511_623_680, 0, 0, Order::Halt(7)), 32));
-    text::number(write_number(made(1, 0, 8, 0, Order::Halt(7)), 32));
-    text::number(write_number(made(1, 0, 0, 1, Order::Halt(7)), 32));
-    text::number(write_number(made(2, 0, 0, 0, Order::Halt(7)), 32));
-    text::number(write_number(made(2, 0, 0, 9, Order::Halt(7)), 32));
-    text::number(write_number(made(1, 0, 0, 0, publish(7, 0)), 32));
-    text::number(write_number(made(1, 0, 0, 0, publish(7, 101)), 0));
-    text::number(write_number(made(1, 0, 0, 0, Order::Halt(7)), 22));
-    text::number(write_number(made(2, 0, 0, 1, publish(7, 1)), 27));
-    text::number(write_number(made(2, 0, 0, 1, publish(7, 1)), 28));
-    text::line(b"");
-    text::word(b"read");
-    text::number(read_number(0));
-    text::number(read_number(1));
-    text::line(b"");
+fn refuse(rt: &impl Print) -> io::Result<()> {
+    text::word(rt, "write")?;
+    text::number(rt, write_number(made(0, 0, 0, 0, Order::Halt(7)), 32))?;
+    text::number(rt, write_number(made(3, 0, 0, 1, Order::Halt(7)), 32))?;
+    text::number(
+        rt,
+        write_number(made(1, 1_099_511_623_680, 0, 0, Order::Halt(7)), 32),
+    )?;
+    text::number(rt, write_number(made(1, 0, 8, 0, Order::Halt(7)), 32))?;
+    text::number(rt, write_number(made(1, 0, 0, 1, Order::Halt(7)), 32))?;
+    text::number(rt, write_number(made(2, 0, 0, 0, Order::Halt(7)), 32))?;
+    text::number(rt, write_number(made(2, 0, 0, 9, Order::Halt(7)), 32))?;
+    text::number(rt, write_number(made(1, 0, 0, 0, publish(7, 0)), 32))?;
+    text::number(rt, write_number(made(1, 0, 0, 0, publish(7, 101)), 0))?;
+    text::number(rt, write_number(made(1, 0, 0, 0, Order::Halt(7)), 22))?;
+    text::number(rt, write_number(made(2, 0, 0, 1, publish(7, 1)), 27))?;
+    text::number(rt, write_number(made(2, 0, 0, 1, publish(7, 1)), 28))?;
+    text::line(rt, "")?;
+    text::word(rt, "read")?;
+    text::number(rt, read_number(0))?;
+    text::number(rt, read_number(1))?;
+    text::line(rt, "")
 }
 
 // What writing to so many bytes answers, 32 at most.
@@ -118,7 +126,7 @@ fn read_number(rules: u8) -> u64 {
 }
 
 // A thousand messages from a fixed seed, written, read and compared; then a sum over all their bytes, and over their orders' bytes.
-fn shuffle() {
+fn shuffle(rt: &impl Print) -> io::Result<()> {
     let mut seed: u64 = 20;
     let mut sums = sweep::Sums {
         same: 0,
@@ -132,22 +140,22 @@ fn shuffle() {
         seed = random(random(random(random(seed))));
         i += 1;
     }
-    text::word(b"random");
-    text::number(sums.same as u64);
-    text::number(sums.bytes);
-    text::number(sums.orders);
-    text::line(b"");
+    text::word(rt, "random")?;
+    text::number(rt, sums.same as u64)?;
+    text::number(rt, sums.bytes)?;
+    text::number(rt, sums.orders)?;
+    text::line(rt, "")
 }
 
 // A reader over a message that ends within its source, and over one with another tag there.
-fn mislead() {
+fn mislead(rt: &impl Print) -> io::Result<()> {
     let mut bytes = [0u8; 27];
     let case = made(2, 100, 7, 8, Order::Resume(7));
     let message = case.message;
     message::write(2, message, &mut bytes);
-    places::print(2, sweep::first(&bytes, 14));
+    places::print(rt, 2, sweep::first(&bytes, 14))?;
     bytes[11] = 3;
-    places::print(2, &bytes);
+    places::print(rt, 2, &bytes)
 }
 
 // The next number below 2^31 of a linear congruence.

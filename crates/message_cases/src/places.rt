@@ -2,6 +2,7 @@
 use crate::text;
 use fields::{Fault, Slot};
 use message::{Number, Reader};
+use std::io;
 
 #[derive(Clone, Copy)]
 struct Passed {
@@ -10,31 +11,31 @@ struct Passed {
 }
 
 // Stamp, source and hop, whatever the rules: each its fault or 0, its number, and the place. Then the order's bytes.
-pub(crate) fn print(rules: u8, bytes: &[u8]) {
-    text::word(b"reader");
+pub(crate) fn print(rt: &impl Print, rules: u8, bytes: &[u8]) -> io::Result<()> {
+    text::word(rt, "reader")?;
     let stamp = step(bytes, 0, message::STAMP);
-    print_step(stamp);
+    print_step(rt, stamp)?;
     let source = step(bytes, stamp.place, message::SOURCE);
-    print_step(source);
-    print_step(step(bytes, source.place, message::HOP));
-    text::line(b"");
-    text::hex(order(rules, bytes));
-    text::line(b"");
+    print_step(rt, source)?;
+    print_step(rt, step(bytes, source.place, message::HOP))?;
+    text::line(rt, "")?;
+    text::hex(rt, order(rules, bytes))?;
+    text::line(rt, "")
 }
 
-fn print_step(step: Passed) {
+fn print_step(rt: &impl Print, step: Passed) -> io::Result<()> {
     let number = step.number;
     match number {
         Number::Value(x) => {
-            text::number(0);
-            text::number(x);
+            text::number(rt, 0)?;
+            text::number(rt, x)?;
         }
         Number::Wrong(fault) => {
-            text::number(fault_number(fault));
-            text::number(0);
+            text::number(rt, fault_number(fault))?;
+            text::number(rt, 0)?;
         }
     }
-    text::number(step.place as u64);
+    text::number(rt, step.place as u64)
 }
 
 fn fault_number(fault: Fault) -> u64 {

@@ -1,6 +1,7 @@
 // Bytes near a message, read again.
 use crate::text;
 use message::{Got, Message, Written};
+use std::io;
 
 // Refused 30; read, and written back to the same bytes; neither.
 #[derive(Clone, Copy)]
@@ -26,12 +27,12 @@ pub(crate) fn none() -> Tally {
     }
 }
 
-pub(crate) fn print(name: &[u8], tally: Tally) {
-    text::word(name);
-    text::number(tally.refused as u64);
-    text::number(tally.same as u64);
-    text::number(tally.wrong as u64);
-    text::line(b"");
+pub(crate) fn print(rt: &impl Print, name: &str, tally: Tally) -> io::Result<()> {
+    text::word(rt, name)?;
+    text::number(rt, tally.refused as u64)?;
+    text::number(rt, tally.same as u64)?;
+    text::number(rt, tally.wrong as u64)?;
+    text::line(rt, "")
 }
 
 // Each of the first n bytes from a place on set to each value, one at a time; there are 32 bytes at most.
@@ -100,7 +101,7 @@ fn writes_back(rules: u8, message: Message, bytes: &[u8]) -> bool {
     let Written::Length(n) = written else {
         return false;
     };
-    check::same(first(&again, n), bytes)
+    first(&again, n) == bytes
 }
 
 // A message written and read, with its bytes and its order's bytes added to the sums.

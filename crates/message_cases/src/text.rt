@@ -1,30 +1,27 @@
 // Lines of words and numbers on standard output.
 ghost use Rattle.std.specs.Prelude.{◌<◌};
 
-use libc::STDOUT_FILENO;
+use std::io;
 
-pub(crate) fn word(text: &[u8]) {
-    io::write_all(STDOUT_FILENO, text);
+pub(crate) fn word(rt: &impl Print, text: &str) -> io::Result<()> {
+    rt.print(text)
 }
 
-pub(crate) fn line(text: &[u8]) {
-    word(text);
-    word(b"\n");
+pub(crate) fn line(rt: &impl Print, text: &str) -> io::Result<()> {
+    rt.println(text)
 }
 
 // A space and a number.
-pub(crate) fn number(n: u64) {
-    word(b" ");
-    io::print_decimal(STDOUT_FILENO, n);
+pub(crate) fn number(rt: &impl Print, n: u64) -> io::Result<()> {
+    print!(rt; " {n}")
 }
 
 // Bytes in hexadecimal.
-pub(crate) fn hex(bytes: &[u8]) {
-    let mut i = 0;
-    while i < bytes.len() {
-        io::print_hex(STDOUT_FILENO, wide(bytes[i]), 2);
-        i += 1;
+pub(crate) fn hex(rt: &impl Print, bytes: &[u8]) -> io::Result<()> {
+    for byte in bytes {
+        print!(rt; "{byte:02x}")?;
     }
+    Ok(())
 }
 
 pub(crate) fn wide(byte: u8) -> u64

@@ -2,15 +2,17 @@
 ghost use Rattle.std.specs.Prelude.{◌<◌, ◌≤◌};
 
 use network::{Link, Plan};
+use std::io;
 
-pub(crate) fn many(count: u64) {
+pub(crate) fn many(rt: &impl Print, count: u64) -> io::Result<()> {
     let mut seed: u64 = 2026;
     let mut i: u64 = 0;
     while i < count {
-        crate::answer(drawn(seed));
+        crate::answer(rt, drawn(seed))?;
         seed = after(seed, 8);
         i += 1;
     }
+    Ok(())
 }
 
 // The plan of a seed: each number takes the next draw.

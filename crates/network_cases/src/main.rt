@@ -4,92 +4,92 @@
 
 mod drawn;
 
-use libc::STDOUT_FILENO;
 use network::{Link, Plan, Planned, Timing};
+use std::io;
 
-fn main() {
-    numbers(triangle());
-    faults(triangle());
-    links(triangle());
-    drawn::many(400);
+fn main(rt: HostRuntime) -> io::Result<()> {
+    numbers(&rt, triangle())?;
+    faults(&rt, triangle())?;
+    links(&rt, triangle())?;
+    drawn::many(&rt, 400)
 }
 
 // Refusal 1, number by number.
-fn numbers(p: Plan) {
+fn numbers(rt: &impl Print, p: Plan) -> io::Result<()> {
     let mut q = p;
     q.hosts = 0;
     q.faulty_hosts = 255;
-    answer(q);
+    answer(rt, q)?;
     q.hosts = 1;
-    answer(q);
+    answer(rt, q)?;
     q = p;
     q.hosts = 9;
-    answer(q);
+    answer(rt, q)?;
     q = p;
     q.link_count = 0;
-    answer(q);
+    answer(rt, q)?;
     q.link_count = 13;
-    answer(q);
+    answer(rt, q)?;
     q.link_count = 255;
-    answer(q);
-    sizes(p, 0);
-    sizes(p, 1);
-    sizes(p, 64);
-    sizes(p, 65);
-    sizes(p, 255);
+    answer(rt, q)?;
+    sizes(rt, p, 0)?;
+    sizes(rt, p, 1)?;
+    sizes(rt, p, 64)?;
+    sizes(rt, p, 65)?;
+    sizes(rt, p, 255)
 }
 
-fn sizes(p: Plan, size: u8) {
+fn sizes(rt: &impl Print, p: Plan, size: u8) -> io::Result<()> {
     let mut q = p;
     q.delay = size;
-    answer(q);
+    answer(rt, q)?;
     q = p;
     q.skew = size;
-    answer(q);
+    answer(rt, q)
 }
 
 // The planned numbers of faults: out of range, parting, and borne.
-fn faults(p: Plan) {
+fn faults(rt: &impl Print, p: Plan) -> io::Result<()> {
     let mut q = p;
     q.faulty_hosts = 2;
-    answer(q);
+    answer(rt, q)?;
     q.faulty_hosts = 1;
-    answer(q);
+    answer(rt, q)?;
     q.faulty_hosts = 0;
     q.faulty_links = 1;
-    answer(q);
+    answer(rt, q)?;
     q.faulty_links = 2;
-    answer(q);
+    answer(rt, q)?;
     q.faulty_links = 12;
-    answer(q);
+    answer(rt, q)?;
     q.faulty_links = 13;
-    answer(q);
+    answer(rt, q)
 }
 
 // Refusal 2, which comes after 1 and before 3; and a place that is not used.
-fn links(p: Plan) {
+fn links(rt: &impl Print, p: Plan) -> io::Result<()> {
     let mut q = p;
     q.links[1] = pair(0, 3);
-    answer(q);
+    answer(rt, q)?;
     q.links[1] = pair(3, 4);
-    answer(q);
+    answer(rt, q)?;
     q.links[1] = pair(2, 0);
-    answer(q);
+    answer(rt, q)?;
     q.links[1] = pair(1, 1);
-    answer(q);
+    answer(rt, q)?;
     q.links[1] = pair(0, 1);
-    answer(q);
+    answer(rt, q)?;
     q.skew = 0;
-    answer(q);
+    answer(rt, q)?;
     q = p;
     q.links[2] = pair(0, 2);
     q.faulty_hosts = 1;
-    answer(q);
+    answer(rt, q)?;
     q = p;
     q.links[5] = pair(9, 9);
-    answer(q);
+    answer(rt, q)?;
     q.link_count = 2;
-    answer(q);
+    answer(rt, q)
 }
 
 fn triangle() -> Plan {
@@ -123,30 +123,24 @@ fn pair(a: u8, b: u8) -> Link {
 }
 
 // The refusal, or d and each rule set's bound and window.
-pub(crate) fn answer(p: Plan) {
+pub(crate) fn answer(rt: &impl Print, p: Plan) -> io::Result<()> {
     match network::planning::plan(p) {
         Planned::Accepted(b) => {
-            io::write_all(STDOUT_FILENO, b"d ");
-            io::print_decimal(STDOUT_FILENO, b.d as u64);
-            timing(b.first);
-            timing(b.second);
-            io::write_all(STDOUT_FILENO, b"\n");
+            print!(rt; "d {}", b.d)?;
+            timing(rt, b.first)?;
+            timing(rt, b.second)?;
+            println!(rt)
         }
-        Planned::OutOfRange => refused(1),
-        Planned::BadLink => refused(2),
-        Planned::Parted => refused(3),
+        Planned::OutOfRange => refused(rt, 1),
+        Planned::BadLink => refused(rt, 2),
+        Planned::Parted => refused(rt, 3),
     }
 }
 
-fn timing(t: Timing) {
-    io::write_all(STDOUT_FILENO, b", ");
-    io::print_decimal(STDOUT_FILENO, t.bound);
-    io::write_all(STDOUT_FILENO, b" ");
-    io::print_decimal(STDOUT_FILENO, t.window);
+fn timing(rt: &impl Print, t: Timing) -> io::Result<()> {
+    print!(rt; ", {} {}", t.bound, t.window)
 }
 
-fn refused(number: u64) {
-    io::write_all(STDOUT_FILENO, b"refused ");
-    io::print_decimal(STDOUT_FILENO, number);
-    io::write_all(STDOUT_FILENO, b"\n");
+fn refused(rt: &impl Print, number: u64) -> io::Result<()> {
+    println!(rt; "refused {number}")
 }

@@ -1,17 +1,19 @@
 // Reads a schedule from standard input and writes the report of its replay to standard output.
 #![tactic(auto)]
 
-use libc::{STDIN_FILENO, STDOUT_FILENO};
 use report::Told;
+use std::io;
+use std::io::Read;
 
-fn main() {
+fn main(rt: HostRuntime) -> io::Result<()> {
     // One byte more than the longest schedule, so that a longer file is seen to be too long.
     let mut bytes = [0u8; 8193];
-    let read = io::read_full(STDIN_FILENO, &mut bytes);
+    let read = io::copy(&mut rt.stdin().take(8193), &mut &mut bytes[..])?;
     // Enough for every report.
     let mut out = [0u8; 20480];
-    let told = report::report(&bytes[..read], &mut out);
+    let told = report::report(&bytes[..read.min(8193) as usize], &mut out);
     if let Told::Written(count) = told {
-        io::write_all(STDOUT_FILENO, &out[..count]);
+        rt.write_all(&out[..count])?;
     }
+    Ok(())
 }

@@ -2,52 +2,53 @@
 // writes the input from the incidents, and what must come of them from their texts.
 #![tactic(auto)]
 
-ghost use Rattle.std.specs.Prelude.{◌<◌, length};
+ghost use Rattle.std.specs.Prelude.{◌<◌, length, IfOk};
 
-use libc::{STDIN_FILENO, STDOUT_FILENO};
 use report::Told;
+use std::io;
+use std::io::Read;
 
-fn main() {
-    let mut buffer = io::large_buffer();
-    let n = io::read_full(STDIN_FILENO, &mut buffer);
-    each(&buffer[..n]);
+fn main(rt: HostRuntime) -> io::Result<()> {
+    let mut buffer = [0u8; 65536];
+    let n = io::copy(&mut rt.stdin().take(65536), &mut &mut buffer[..])?;
+    each(&rt, &buffer[..n.min(65536) as usize])
 }
 
-fn each(bytes: &[u8]) {
+fn each(rt: &impl Print, bytes: &[u8]) -> io::Result<()> {
     let mut at: usize = 0;
     let mut k: u64 = 0;
     while at < bytes.len() {
-        heading(k);
-        at = one(bytes, at);
+        heading(rt, k)?;
+        at = one(rt, bytes, at)?;
         k += 1;
     }
+    Ok(())
 }
 
-fn heading(k: u64) {
-    io::write_all(STDOUT_FILENO, b"incident ");
-    io::print_decimal(STDOUT_FILENO, k);
-    io::write_all(STDOUT_FILENO, b"\n");
+fn heading(rt: &impl Print, k: u64) -> io::Result<()> {
+    println!(rt; "incident {k}")
 }
 
 // Replays the schedule at a place, and tells where the next one begins.
-fn one(bytes: &[u8], at: usize) -> usize
+fn one(rt: &impl Print, bytes: &[u8], at: usize) -> io::Result<usize>
     requires { at < length bytes.now }
-    ensures { at < result }
+    ensures { IfOk result (λ next. at < next) }
 {
     let start = at + 2;
     let end = start + fields::value_at(bytes, at, 2) as usize;
     if bytes.len() < end {
-        return bytes.len();
+        return Ok(bytes.len());
     }
-    replay(&bytes[start..end]);
-    end
+    replay(rt, &bytes[start..end])?;
+    Ok(end)
 }
 
-fn replay(bytes: &[u8]) {
+fn replay(rt: &impl Print, bytes: &[u8]) -> io::Result<()> {
     // Enough for every report.
     let mut out = [0u8; 20480];
     let told = report::report(bytes, &mut out);
     if let Told::Written(count) = told {
-        io::write_all(STDOUT_FILENO, &out[..count]);
+        rt.write_all(&out[..count])?;
     }
+    Ok(())
 }

@@ -4,33 +4,35 @@
 
 mod show;
 
-ghost use Rattle.std.specs.Prelude.{◌<◌, length};
+ghost use Rattle.std.specs.Prelude.{◌<◌, length, IfOk};
 
-use libc::STDIN_FILENO;
+use std::io;
+use std::io::Read;
 
-fn main() {
-    let mut buffer = io::large_buffer();
-    let n = io::read_full(STDIN_FILENO, &mut buffer);
-    each(&buffer[..n]);
+fn main(rt: HostRuntime) -> io::Result<()> {
+    let mut buffer = [0u8; 65536];
+    let n = io::copy(&mut rt.stdin().take(65536), &mut &mut buffer[..])?;
+    each(&rt, &buffer[..n.min(65536) as usize])
 }
 
-fn each(bytes: &[u8]) {
+fn each(rt: &impl Print, bytes: &[u8]) -> io::Result<()> {
     let mut at: usize = 0;
     while at < bytes.len() {
-        at = one(bytes, at);
+        at = one(rt, bytes, at)?;
     }
+    Ok(())
 }
 
 // Shows the answer for the schedule at a place, and tells where the next one begins.
-fn one(bytes: &[u8], at: usize) -> usize
+fn one(rt: &impl Print, bytes: &[u8], at: usize) -> io::Result<usize>
     requires { at < length bytes.now }
-    ensures { at < result }
+    ensures { IfOk result (λ next. at < next) }
 {
     let start = at + 2;
     let end = start + fields::value_at(bytes, at, 2) as usize;
     if bytes.len() < end {
-        return bytes.len();
+        return Ok(bytes.len());
     }
-    show::found(schedule::read(&bytes[start..end]));
-    end
+    show::found(rt, schedule::read(&bytes[start..end]))?;
+    Ok(end)
 }

@@ -1,132 +1,136 @@
 // An answer as a line: the refusal, or the schedule with every copy whose delay is not 1.
-use libc::STDOUT_FILENO;
 use network::{Link, Plan};
 use schedule::{Answer, Found, Schedule, Start};
+use std::io;
 
-pub(crate) fn found(f: Found) {
+pub(crate) fn found(rt: &impl Print, f: Found) -> io::Result<()> {
     let answer = f.answer;
     let s = f.schedule;
     match answer {
         Answer::Accepted => {
-            accepted(s);
+            accepted(rt, s)?;
         }
         Answer::NotASchedule => {
-            refused(31);
+            refused(rt, 31)?;
         }
         Answer::OutOfRange => {
-            refused(1);
+            refused(rt, 1)?;
         }
         Answer::BadLink => {
-            refused(2);
+            refused(rt, 2)?;
         }
         Answer::Parted => {
-            refused(3);
+            refused(rt, 3)?;
         }
         Answer::OutsideRules(k) => {
-            refused(32);
-            number(k as u64);
+            refused(rt, 32)?;
+            number(rt, k as u64)?;
         }
     }
-    io::write_all(STDOUT_FILENO, b"\n");
+    println!(rt)
 }
 
-fn refused(n: u64) {
-    io::write_all(STDOUT_FILENO, b"refused");
-    number(n);
+fn refused(rt: &impl Print, n: u64) -> io::Result<()> {
+    print!(rt; "refused")?;
+    number(rt, n)
 }
 
-fn number(n: u64) {
-    io::write_all(STDOUT_FILENO, b" ");
-    io::print_decimal(STDOUT_FILENO, n);
+fn number(rt: &impl Print, n: u64) -> io::Result<()> {
+    print!(rt; " {n}")
 }
 
-fn accepted(s: Schedule) {
+fn accepted(rt: &impl Print, s: Schedule) -> io::Result<()> {
     let p = s.plan;
     let first = s.bounds.first;
     let all = s.starts;
     let waits = s.delays;
     let set = s.offsets;
-    plan(p);
-    io::write_all(STDOUT_FILENO, b" d");
-    number(s.bounds.d as u64);
-    number(first.bound);
-    number(first.window);
-    io::write_all(STDOUT_FILENO, b" faults");
-    number(s.faults.hosts as u64);
-    number(s.faults.links as u64);
-    offsets(set);
-    io::write_all(STDOUT_FILENO, b" end");
-    number(s.end.0);
-    starts(all, s.start_count);
-    delays(waits);
+    plan(rt, p)?;
+    print!(rt; " d")?;
+    number(rt, s.bounds.d as u64)?;
+    number(rt, first.bound)?;
+    number(rt, first.window)?;
+    print!(rt; " faults")?;
+    number(rt, s.faults.hosts as u64)?;
+    number(rt, s.faults.links as u64)?;
+    offsets(rt, set)?;
+    print!(rt; " end")?;
+    number(rt, s.end.0)?;
+    starts(rt, all, s.start_count)?;
+    delays(rt, waits)
 }
 
-fn plan(p: Plan) {
+fn plan(rt: &impl Print, p: Plan) -> io::Result<()> {
     let pairs = p.links;
-    io::write_all(STDOUT_FILENO, b"plan");
-    number(p.hosts as u64);
-    number(p.faulty_hosts as u64);
-    number(p.faulty_links as u64);
-    number(p.delay as u64);
-    number(p.skew as u64);
-    io::write_all(STDOUT_FILENO, b" links");
-    number(p.link_count as u64);
-    links(pairs);
+    print!(rt; "plan")?;
+    number(rt, p.hosts as u64)?;
+    number(rt, p.faulty_hosts as u64)?;
+    number(rt, p.faulty_links as u64)?;
+    number(rt, p.delay as u64)?;
+    number(rt, p.skew as u64)?;
+    print!(rt; " links")?;
+    number(rt, p.link_count as u64)?;
+    links(rt, pairs)
 }
 
-fn links(pairs: [Link; 12]) {
+fn links(rt: &impl Print, pairs: [Link; 12]) -> io::Result<()> {
     let mut i: usize = 0;
     while i < 12 {
         let l = pairs[i];
-        number(l.a as u64);
-        number(l.b as u64);
+        number(rt, l.a as u64)?;
+        number(rt, l.b as u64)?;
         i += 1;
     }
+    Ok(())
 }
 
-fn offsets(set: [u8; 8]) {
-    io::write_all(STDOUT_FILENO, b" offsets");
+fn offsets(rt: &impl Print, set: [u8; 8]) -> io::Result<()> {
+    print!(rt; " offsets")?;
     let mut i: usize = 0;
     while i < 8 {
         let x = set[i];
-        number(x as u64);
+        number(rt, x as u64)?;
         i += 1;
     }
+    Ok(())
 }
 
-fn starts(all: [Start; 16], count: usize) {
-    io::write_all(STDOUT_FILENO, b" starts");
-    number(count as u64);
+fn starts(rt: &impl Print, all: [Start; 16], count: usize) -> io::Result<()> {
+    print!(rt; " starts")?;
+    number(rt, count as u64)?;
     let mut i: usize = 0;
     while i < 16 {
         let s = all[i];
-        start(s);
+        start(rt, s)?;
         i += 1;
     }
+    Ok(())
 }
 
 // A start in use, or one that is not zero.
-fn start(s: Start) {
+fn start(rt: &impl Print, s: Start) -> io::Result<()> {
     let order = s.order;
     let share = orders::share(order) as u64;
     if orders::share_fits(order) {
-        number(s.tick.0);
-        number(s.host as u64);
-        number(orders::kind(order) as u64);
-        number(orders::image(order) as u64);
-        number(share);
+        number(rt, s.tick.0)?;
+        number(rt, s.host as u64)?;
+        number(rt, orders::kind(order) as u64)?;
+        number(rt, orders::image(order) as u64)?;
+        number(rt, share)?;
     }
+    Ok(())
 }
 
-fn delays(all: [u8; 384]) {
-    io::write_all(STDOUT_FILENO, b" delays");
+fn delays(rt: &impl Print, all: [u8; 384]) -> io::Result<()> {
+    print!(rt; " delays")?;
     let mut i: usize = 0;
     while i < 384 {
         let x = all[i];
         if x != 1 {
-            number(i as u64);
-            number(x as u64);
+            number(rt, i as u64)?;
+            number(rt, x as u64)?;
         }
         i += 1;
     }
+    Ok(())
 }

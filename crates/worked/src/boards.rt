@@ -2,57 +2,61 @@
 use crate::text;
 use board::{Answer, Board, Place, Stand};
 use orders::Order;
+use std::io;
 
-pub(crate) fn table() {
-    text::word(b"board: absent | offered 30 | halted 30 | halted 0\n");
-    text::word(b"publish 45: ");
-    row(Order::Publish {
-        image: 7,
-        share: 45,
-    });
-    text::word(b"halt: ");
-    row(Order::Halt(7));
-    text::word(b"resume: ");
-    row(Order::Resume(7));
-    text::word(b"withdraw: ");
-    row(Order::Withdraw(7));
+pub(crate) fn table(rt: &impl Print) -> io::Result<()> {
+    text::word(rt, "board: absent | offered 30 | halted 30 | halted 0\n")?;
+    text::word(rt, "publish 45: ")?;
+    row(
+        rt,
+        Order::Publish {
+            image: 7,
+            share: 45,
+        },
+    )?;
+    text::word(rt, "halt: ")?;
+    row(rt, Order::Halt(7))?;
+    text::word(rt, "resume: ")?;
+    row(rt, Order::Resume(7))?;
+    text::word(rt, "withdraw: ")?;
+    row(rt, Order::Withdraw(7))
 }
 
-fn row(order: Order) {
-    cell(empty(), order);
-    text::word(b" | ");
-    cell(only(Stand::Offered(30)), order);
-    text::word(b" | ");
-    cell(only(Stand::Halted(30)), order);
-    text::word(b" | ");
-    cell(only(Stand::Halted(0)), order);
-    text::word(b"\n");
+fn row(rt: &impl Print, order: Order) -> io::Result<()> {
+    cell(rt, empty(), order)?;
+    text::word(rt, " | ")?;
+    cell(rt, only(Stand::Offered(30)), order)?;
+    text::word(rt, " | ")?;
+    cell(rt, only(Stand::Halted(30)), order)?;
+    text::word(rt, " | ")?;
+    cell(rt, only(Stand::Halted(0)), order)?;
+    text::word(rt, "\n")
 }
 
 // How image 7 stands after the order.
-fn cell(before: Board, order: Order) {
+fn cell(rt: &impl Print, before: Board, order: Order) -> io::Result<()> {
     let applied = board::after_order(before, order);
     let after = applied.board;
     let answer = applied.answer;
     match answer {
-        Answer::Done => standing(after),
-        Answer::Unsound => text::refusal(9),
-        Answer::OutOfRange => text::refusal(23),
+        Answer::Done => standing(rt, after),
+        Answer::Unsound => text::refusal(rt, 9),
+        Answer::OutOfRange => text::refusal(rt, 23),
     }
 }
 
-fn standing(board: Board) {
+fn standing(rt: &impl Print, board: Board) -> io::Result<()> {
     let first = board.places[0];
     let stand = first.stand;
     match stand {
-        Stand::Absent => text::word(b"absent"),
+        Stand::Absent => text::word(rt, "absent"),
         Stand::Offered(share) => {
-            text::word(b"offered ");
-            text::number(share as u64);
+            text::word(rt, "offered ")?;
+            text::number(rt, share as u64)
         }
         Stand::Halted(share) => {
-            text::word(b"halted ");
-            text::number(share as u64);
+            text::word(rt, "halted ")?;
+            text::number(rt, share as u64)
         }
     }
 }

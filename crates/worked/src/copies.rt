@@ -3,16 +3,17 @@ use crate::{plans, text};
 use clock::Reading;
 use host::{Held, SendAnswer};
 use orders::Order;
+use std::io;
 
 // "h = 1 is .. accepted at 98 and 112"; "First rules (Δ 23): accepted at 122"
-pub(crate) fn cases() {
-    case(2, 1, 98);
-    case(2, 1, 112);
-    case(1, 0, 122);
+pub(crate) fn cases(rt: &impl Print) -> io::Result<()> {
+    case(rt, 2, 1, 98)?;
+    case(rt, 2, 1, 112)?;
+    case(rt, 1, 0, 122)
 }
 
 // The copy with this hop, got at this reading over link 0 by a fresh host 1 of these rules.
-fn case(rules: u8, hop: u8, u: u64) {
+fn case(rt: &impl Print, rules: u8, hop: u8, u: u64) -> io::Result<()> {
     let made = host::make(plans::triangle(), rules, 1);
     let fresh = made.host;
     let copy = Held {
@@ -22,18 +23,18 @@ fn case(rules: u8, hop: u8, u: u64) {
     };
     let acted = host::after_receive(fresh, Reading(u), 0, hop, copy);
     let answer = acted.answer;
-    text::word(b"rules ");
-    text::number(rules as u64);
-    text::word(b", bound ");
-    text::number(fresh.bound);
-    text::word(b", hop ");
-    text::number(hop as u64);
-    text::word(b" at ");
-    text::number(u);
-    text::word(b": ");
+    text::word(rt, "rules ")?;
+    text::number(rt, rules as u64)?;
+    text::word(rt, ", bound ")?;
+    text::number(rt, fresh.bound)?;
+    text::word(rt, ", hop ")?;
+    text::number(rt, hop as u64)?;
+    text::word(rt, " at ")?;
+    text::number(rt, u)?;
+    text::word(rt, ": ")?;
     match answer {
-        SendAnswer::Sent { links: _, hop: _ } => text::word(b"accepted"),
-        SendAnswer::Refused(r) => text::refusal(host::number_of(r) as u64),
-    }
-    text::word(b"\n");
+        SendAnswer::Sent { links: _, hop: _ } => text::word(rt, "accepted"),
+        SendAnswer::Refused(r) => text::refusal(rt, host::number_of(r) as u64),
+    }?;
+    text::word(rt, "\n")
 }

@@ -6,8 +6,10 @@ mod copies;
 mod plans;
 mod text;
 
-fn main() {
-    plans::rows();
-    copies::cases();
-    boards::table();
+use std::io;
+
+fn main(rt: HostRuntime) -> io::Result<()> {
+    plans::rows(&rt)?;
+    copies::cases(&rt)?;
+    boards::table(&rt)
 }

@@ -1,11 +1,12 @@
 // The rows of the planning table, "With δ = 10, ε = 3".
 use crate::text;
 use network::{Bounds, Link, Plan, Planned};
+use std::io;
 
-pub(crate) fn rows() {
-    row(b"ring of four, 1, 0: ", ring_of_four(1));
-    row(b"ring of four, 2, 0: ", ring_of_four(2));
-    row(b"cube, 0, 0: ", cube());
+pub(crate) fn rows(rt: &impl Print) -> io::Result<()> {
+    row(rt, "ring of four, 1, 0: ", ring_of_four(1))?;
+    row(rt, "ring of four, 2, 0: ", ring_of_four(2))?;
+    row(rt, "cube, 0, 0: ", cube())
 }
 
 // The triangle that bears one faulty host.
@@ -60,24 +61,24 @@ fn plan(hosts: u8, link_count: u8, faulty_hosts: u8, links: [Link; 12]) -> Plan 
     }
 }
 
-fn row(name: &[u8], p: Plan) {
-    text::word(name);
+fn row(rt: &impl Print, name: &str, p: Plan) -> io::Result<()> {
+    text::word(rt, name)?;
     let planned = network::planning::plan(p);
     match planned {
-        Planned::Accepted(b) => found(b),
-        Planned::OutOfRange => text::refusal(1),
-        Planned::BadLink => text::refusal(2),
-        Planned::Parted => text::refusal(3),
-    }
-    text::word(b"\n");
+        Planned::Accepted(b) => found(rt, b),
+        Planned::OutOfRange => text::refusal(rt, 1),
+        Planned::BadLink => text::refusal(rt, 2),
+        Planned::Parted => text::refusal(rt, 3),
+    }?;
+    text::word(rt, "\n")
 }
 
-fn found(b: Bounds) {
-    text::word(b"d ");
-    text::number(b.d as u64);
-    text::word(b", bound ");
-    text::number(b.first.bound);
-    text::word(b" first, ");
-    text::number(b.second.bound);
-    text::word(b" second");
+fn found(rt: &impl Print, b: Bounds) -> io::Result<()> {
+    text::word(rt, "d ")?;
+    text::number(rt, b.d as u64)?;
+    text::word(rt, ", bound ")?;
+    text::number(rt, b.first.bound)?;
+    text::word(rt, " first, ")?;
+    text::number(rt, b.second.bound)?;
+    text::word(rt, " second")
 }

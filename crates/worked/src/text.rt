@@ -1,15 +1,15 @@
 // Words and numbers on standard output.
-use libc::STDOUT_FILENO;
+use std::io;
 
-pub(crate) fn word(text: &[u8]) {
-    io::write_all(STDOUT_FILENO, text);
+pub(crate) fn word(rt: &impl Print, text: &str) -> io::Result<()> {
+    rt.print(text)
 }
 
-pub(crate) fn number(n: u64) {
-    io::print_decimal(STDOUT_FILENO, n);
+pub(crate) fn number(rt: &impl Print, n: u64) -> io::Result<()> {
+    rt.print(n)
 }
 
-pub(crate) fn refusal(n: u64) {
-    word(b"refusal ");
-    number(n);
+pub(crate) fn refusal(rt: &impl Print, n: u64) -> io::Result<()> {
+    word(rt, "refusal ")?;
+    number(rt, n)
 }
