@@ -1,7 +1,7 @@
 #!/usr/bin/env python3
 """The processor time of a replay, the least of 20 runs each, and how it grows with ticks, hosts and starts; each run's text is held to checks/replay.py.
 
-  rt check replay && python3 checks/replay_times.py
+  ./loom replay incidents/case.schedule && python3 checks/replay_times.py
 """
 import os
 import subprocess
