@@ -185,6 +185,6 @@ module _ (P : Plan) (F : Sturdy P) (H : Host) (L : Laws P H) (B : FirstRules P H
         delivered = delivered;
         made = made;
         keeps_sound = λ b p t s. by_sound b (orders H R p t) s;
-        in_range_lem = in_range_lem;
+        in_range = in_range_lem;
         halts = λ b s p t u i x sb fs fp k e l h. halts b s p t u i x sb fs fp k e l (omega arith);
       }
