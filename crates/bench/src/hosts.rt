@@ -52,7 +52,7 @@ fn sound(rt: &(impl Print + CpuClock), name: &str, h: Host, rounds: u64) -> io::
     if host::is_sound(h) {
         print!(rt; ": sound")?;
     }
-    let from = timing::processor_time(rt)?;
+    let from = timing::processor_time(rt);
     let mut g = h;
     let mut sum: u64 = 0;
     let mut i: u64 = 0;
@@ -79,7 +79,7 @@ fn tick(
     let first = host::after_tick(h, Reading(reading), &mut out);
     let told = first.answer;
     rt.print(delivered(told))?;
-    let from = timing::processor_time(rt)?;
+    let from = timing::processor_time(rt);
     let mut sum: u64 = 0;
     let mut i: u64 = 0;
     while i < rounds {
@@ -103,7 +103,7 @@ fn start(rt: &(impl Print + CpuClock), name: &str, h: Host, rounds: u64) -> io::
     let first = host::after_start(h, Reading(1000), Order::Halt(7));
     let told = first.answer;
     show(rt, told)?;
-    let from = timing::processor_time(rt)?;
+    let from = timing::processor_time(rt);
     let mut sum: u64 = 0;
     let mut i: u64 = 0;
     while i < rounds {
@@ -132,7 +132,7 @@ fn receive(
     let first = host::after_receive(h, Reading(1000), 1, 0, halt(stamp));
     let told = first.answer;
     show(rt, told)?;
-    let from = timing::processor_time(rt)?;
+    let from = timing::processor_time(rt);
     let mut sum: u64 = 0;
     let mut i: u64 = 0;
     while i < rounds {

@@ -38,16 +38,18 @@ pub(crate) fn end_line(
     sum: u64,
 ) -> io::Result<()> {
     if 0 < rounds {
-        let to = processor_time(rt)?;
+        let to = processor_time(rt);
         print!(rt; ", ns {}, sum {sum}", nanoseconds(from, to) / rounds)?;
     }
     println!(rt)
 }
 
-// The processor time that the program has used, in microseconds.
-pub(crate) fn processor_time(rt: &impl CpuClock) -> io::Result<u64> {
-    let used = rt.process_cpu_time()?;
-    Ok(used.as_secs() % 1_000_000_000_000 * 1_000_000 + used.subsec_micros() as u64)
+// The processor time that the program has used, in microseconds; 0 where the clock does not tell.
+pub(crate) fn processor_time(rt: &impl CpuClock) -> u64 {
+    match rt.process_cpu_time() {
+        Ok(used) => used.as_secs() % 1_000_000_000_000 * 1_000_000 + used.subsec_micros() as u64,
+        Err(_) => 0,
+    }
 }
 
 fn nanoseconds(from: u64, to: u64) -> u64 {

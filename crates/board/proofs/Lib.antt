@@ -1,5 +1,6 @@
 -- What the proofs of several functions use, also those of a board in flat places, and the laws for callers: Laws.
 mod Cells
+pub mod Effects
 pub mod Placing
 pub mod Moves
 pub mod Boards
