@@ -1,4 +1,4 @@
-// The exported calls on lent memory: each is the call by value, and the memory is left as that one gave it back.
+// The calls on lent memory that `service_c` exports: each is the call by value, and the memory is left as that one gave it back.
 ghost use Rattle.std.specs.Prelude.{◌≡◌, length};
 ghost use Rattle.network.specs.Network.{planned};
 ghost use Rattle.host.specs.Make.{make_refusal};
