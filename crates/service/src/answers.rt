@@ -30,8 +30,7 @@ pub(crate) fn to_start(memory: HostMemory, u: u64, kind: u8, image: u32, share: 
     ensures { (result.accepted ≡ eqb (start_refusal (host_from memory) u (order_from kind image share)) 0) × (result.number ≡ send_number (start_says (host_from memory) u (order_from kind image share))) }
 {
     let frame = frame_from(memory);
-    let history = memory.history;
-    if !is_sound(frame, history) {
+    if !is_sound(frame, &memory.history) {
         return Answered {
             accepted: false,
             number: 9,
@@ -45,14 +44,13 @@ pub(crate) fn to_copy(memory: HostMemory, u: u64, link: u8, hop: u8, copy: Held)
     ensures { (result.accepted ≡ eqb (receive_refusal (host_from memory) u link hop copy) 0) × (result.number ≡ send_number (receive_says (host_from memory) u link hop copy)) }
 {
     let frame = frame_from(memory);
-    let history = memory.history;
-    if !is_sound(frame, history) {
+    if !is_sound(frame, &memory.history) {
         return Answered {
             accepted: false,
             number: 9,
         };
     }
-    let seen = look(history, memory.held, copy);
+    let seen = look(&memory.history[..memory.held], copy);
     sent(host::receive_answer(frame, Reading(u), link, hop, copy, seen))
 }
 
@@ -84,8 +82,7 @@ pub(crate) fn to_tick(memory: HostMemory, u: u64, room: usize) -> Ticked
 {
     let last = memory.last;
     let frame = frame_from(memory);
-    let history = memory.history;
-    if !is_sound(frame, history) {
+    if !is_sound(frame, &memory.history) {
         return Ticked {
             last,
             count: 0,

@@ -1,8 +1,8 @@
 // The walks over a host's flat history: whether it is that of a sound state, and what is held under a name.
-ghost use Rattle.std.specs.Prelude.{◌≡◌, ◌≤◌, take};
-ghost use Rattle.lists.specs.Lists.{any};
+ghost use Rattle.std.specs.Prelude.{◌≡◌};
+ghost use Rattle.lists.specs.Lists.{all, any};
 ghost use Rattle.host.specs.State.{sound};
-ghost use Rattle.service.specs.Inside.{state_in, named_in, same_in, other_in};
+ghost use Rattle.service.specs.Inside.{state_in, unused_in, named_in, same_in, other_in};
 
 use crate::HeldMemory;
 use crate::orders_in::order_from;
@@ -10,10 +10,9 @@ use crate::places::{has_name, is_before, is_fit, is_started, past_own, word};
 use host::{Frame, Held, Seen, is_framed};
 use orders::same;
 
-// Whether a frame and a flat history are those of a sound state. The history is walked here, so that it is copied once less. Its stamps rise, so of the host's own orders the last tells of
-// all; its unused places are gathered into one number.
-pub(crate) fn is_sound(frame: Frame, history: [HeldMemory; 32]) -> bool
-    ensures { result ≡ sound (state_in frame history) }
+// Whether a frame and a flat history are those of a sound state. The history is walked here, so that no state is made of it. Its stamps rise, so of the host's own orders the last tells of all.
+pub(crate) fn is_sound(frame: Frame, history: &[HeldMemory; 32]) -> bool
+    ensures { result ≡ sound (state_in frame history.now) }
 {
     if !is_framed(frame) {
         return false;
@@ -25,9 +24,7 @@ pub(crate) fn is_sound(frame: Frame, history: [HeldMemory; 32]) -> bool
     let plan = frame.plan;
     let mut own_end = 0;
     let mut previous = history[0];
-    let mut i = 0;
-    while i < held {
-        let e = history[i];
+    for (i, &e) in history[..held].iter().enumerate() {
         if !is_fit(e, plan.hosts) {
             return false;
         }
@@ -36,33 +33,30 @@ pub(crate) fn is_sound(frame: Frame, history: [HeldMemory; 32]) -> bool
         }
         own_end = past_own(e, frame.own, own_end);
         previous = e;
-        i += 1;
     }
-    if !is_started(frame, own_end) {
-        return false;
-    }
-    let mut bits: u64 = 0;
-    while i < 32 {
-        let e = history[i];
+    is_started(frame, own_end) && are_unused(&history[held..])
+}
+
+// Whether places are all zero: they are gathered into one number, since a test at each would cost a branch.
+fn are_unused(places: &[HeldMemory]) -> bool
+    ensures { result ≡ all unused_in places.now }
+{
+    let mut bits = 0;
+    for &e in places {
         bits = bits | e.stamp.0 | word(e);
-        i += 1;
     }
     bits == 0
 }
 
 // Whether the order's name is held: for the same order, for another, for any. Orders are compared only under one name.
-pub(crate) fn look(history: [HeldMemory; 32], held: usize, x: Held) -> Seen
-    requires { held ≤ 32 }
-    ensures { (result.same ≡ any (same_in x) (take held history)) × ((result.other ≡ any (other_in x) (take held history)) × (result.named ≡ any (named_in x) (take held history))) }
+pub(crate) fn look(history: &[HeldMemory], x: Held) -> Seen
+    ensures { (result.same ≡ any (same_in x) history.now) × ((result.other ≡ any (other_in x) history.now) × (result.named ≡ any (named_in x) history.now)) }
 {
     let order = x.order;
     let mut known = false;
     let mut other = false;
     let mut named = false;
-    let mut i = 0;
-    while i < held {
-        let e = history[i];
-        i += 1;
+    for &e in history {
         if has_name(x, e) {
             let theirs = order_from(e.kind, e.image, e.share);
             named = true;
