@@ -3,7 +3,7 @@ mod Zeros
 mod Forms
 mod Converts
 mod Maps
-mod Lefts
+mod Shifts
 pub mod Back
 mod Ticks
 mod Standing

@@ -12,8 +12,9 @@ ghost use Rattle.service.specs.Calls.{call_left, send_number, tick_number, make_
 
 use crate::afters::after_tick;
 use crate::answers::to_tick;
-use crate::boards::left_by_order;
+use crate::boards::apply;
 use crate::calls::{left_by_make, left_by_receive, left_by_start};
+use crate::orders_in::order_from;
 use crate::plans::left_by_plan;
 use crate::{BoardMemory, HostMemory, PlanMemory};
 use clock::Reading;
@@ -80,7 +81,8 @@ pub fn loom_tick(memory: &mut HostMemory, u: u64, out: &mut [u8]) -> u64
 pub fn loom_apply(memory: &mut BoardMemory, kind: u8, image: u32, share: u16) -> u64
     ensures { (memory.new ≡ order_left memory.old (order_from kind image share)) × (result ≡ board_refusal (board_from memory.old) (order_from kind image share)) }
 {
-    let left = left_by_order(*memory, kind, image, share);
-    *memory = left.memory;
-    left.answer
+    match apply(memory, order_from(kind, image, share)) {
+        Ok(()) => 0,
+        Err(refusal) => u64::from(u8::from(refusal)),
+    }
 }

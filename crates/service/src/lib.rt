@@ -57,6 +57,12 @@ pub struct PlaceMemory {
     pub share: u16,
 }
 
+pub(crate) const NO_PLACE: PlaceMemory = PlaceMemory {
+    image: 0,
+    stand: 0,
+    share: 0,
+};
+
 #[repr(C)]
 #[derive(Clone, Copy)]
 pub struct BoardMemory {
@@ -78,12 +84,6 @@ pub struct PlanMemory {
 #[derive(Clone, Copy)]
 pub struct HostLeft {
     pub memory: HostMemory,
-    pub answer: u64,
-}
-
-#[derive(Clone, Copy)]
-pub struct BoardLeft {
-    pub memory: BoardMemory,
     pub answer: u64,
 }
 
