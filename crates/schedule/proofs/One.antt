@@ -6,6 +6,7 @@ use Prim.Native.Nat.{ℕ}
 use lib.Dec.{eqb}
 use Rattle.std.specs.Prelude.{Result, Ok, Err}
 use Rattle.lists.proofs.One.{one_result}
+use Rattle.network.specs.declared.PlanRefusal.{PlanRefusal}
 use Rattle.network.specs.declared.PlanRefusal.TheVariants.{OutOfRange, BadLink, Parted}
 use Rattle.schedule.specs.declared.Refusal.{Refusal}
 use Rattle.schedule.specs.declared.Refusal.TheVariants.{NotASchedule, Plan, OutsideRules}
@@ -42,3 +43,6 @@ number_of_one a m n = one_result
 
 pub index_of_one : (a : Refusal) (m n : ℕ) → m ≡ (numbers a).1 → n ≡ (numbers a).1 → m ≡ n
 index_of_one a m n = one_result
+
+pub from_one : (p : PlanRefusal) (r s : Refusal) → r ≡ Plan p → s ≡ Plan p → r ≡ s
+from_one p r s = one_result

@@ -11,7 +11,7 @@ use Rattle.std.specs.Prelude.{Result, Ok, Err}
 use Rattle.lists.specs.Searches.{least}
 use Rattle.lists.specs.Tests.{all_of, first_of}
 use Rattle.lists.proofs.TestLaws.{first_of_left, first_of_right}
-use Rattle.network.specs.Network.{worst, bounds, plan_tests, plan_refusal, planned, Said, refused, says as said}
+use Rattle.network.specs.Network.{worst, bounds, plan_tests, plan_refusal, planned, Said, refused, number, says as said}
 use Rattle.network.specs.declared.Plan.{Plan}
 use Rattle.network.specs.declared.Bounds.{Bounds}
 use Rattle.network.specs.declared.PlanRefusal.{PlanRefusal}
@@ -26,7 +26,7 @@ use Rattle.schedule.specs.Shape.{records, is_schedule}
 use Rattle.schedule.specs.Schedule.{plan_of, schedule_of}
 use Rattle.schedule.specs.Rules.{outside, first_outside}
 use Rattle.schedule.specs.Inside.{Shaped, Judged, InNumbers}
-use Rattle.schedule.specs.Calls.{read_tests, read_refusal, answered, nothing, schedule_read, numbers, says, found}
+use Rattle.schedule.specs.Calls.{read_tests, read_refusal, answered, schedule_read, numbers, says, found}
 
 -- ---- what planning said
 
@@ -41,17 +41,17 @@ pub said_bounds : (p : Plan) → plan_refusal p ≡ 0 → (planned p).bounds ≡
 said_bounds p e = rw (eq-eqb (plan_refusal p) 0 e)
 
 -- planning's refusal is none of 0 and 32
-pub said_some : (r : PlanRefusal) → eqb (said (Err r)).refusal 0 ≡ false
-said_some OutOfRange = refl
-said_some BadLink = refl
-said_some Parted = refl
+pub number_some : (r : PlanRefusal) → eqb (number r) 0 ≡ false
+number_some OutOfRange = refl
+number_some BadLink = refl
+number_some Parted = refl
 
-pub said_few : (r : PlanRefusal) → eqb (said (Err r)).refusal 32 ≡ false
-said_few OutOfRange = refl
-said_few BadLink = refl
-said_few Parted = refl
+pub number_few : (r : PlanRefusal) → eqb (number r) 32 ≡ false
+number_few OutOfRange = refl
+number_few BadLink = refl
+number_few Parted = refl
 
-pub unplanned : (p q : Plan) (r : PlanRefusal) → p ≡ q → said (Err r) ≡ planned p → (said (Err r)).refusal ≡ plan_refusal q
+pub unplanned : (p q : Plan) (r : PlanRefusal) → p ≡ q → said (Err r) ≡ planned p → number r ≡ plan_refusal q
 unplanned p q r e w = ap (λ (s : Said). s.refusal) w ∙ said_refusal p ∙ ap plan_refusal e
 
 pub judged : (bs : List ℕ) (t : Tally) (p : Plan) (b : Bounds) → Shaped bs t → p ≡ plan_of bs → said (Ok b) ≡ planned p → Judged bs t p b
@@ -94,13 +94,13 @@ module _ (bs : List ℕ) where
     past_shape = rw s
 
     -- 1 to 3
-    pub right_unplanned : (r : PlanRefusal) → (said (Err r)).refusal ≡ plan_refusal (plan_of bs) → Right (Err (Unplanned r))
+    pub right_unplanned : (r : PlanRefusal) → number r ≡ plan_refusal (plan_of bs) → Right (Err (Unplanned r))
     right_unplanned r q =
-        let f : read_refusal bs ≡ (said (Err r)).refusal =
+        let f : read_refusal bs ≡ number r =
         past_shape
-        ∙ first_of_left (plan_tests (plan_of bs)) ((32, ltb (first_outside bs) (records bs)) ∷ []) (λ w. eqb-false _ 0 (said_some r) (q ∙ w))
+        ∙ first_of_left (plan_tests (plan_of bs)) ((32, ltb (first_outside bs) (records bs)) ∷ []) (λ w. eqb-false _ 0 (number_some r) (q ∙ w))
         ∙ sym q in
-        right_refused (Unplanned r) (rw (f, said_few r)) (rw (f, said_some r))
+        right_refused (Unplanned r) (rw (f, number_few r)) (rw (f, number_some r))
 
     module _ (clear : plan_refusal (plan_of bs) ≡ 0) where
       past_plan : read_refusal bs ≡ cond (ltb (first_outside bs) (records bs)) 32 0

@@ -1,7 +1,7 @@
 -- What reading answers (01, "Refusal numbers"). Assumes nothing.
 use Rattle.std.specs.Prelude.{Result, Ok, Err, Bool, cond, not, List, [], ◌∷◌, ◌++◌, ℕ, ltb, eqb, replicate}
 use Rattle.lists.specs.Tests.{first_of}
-use Rattle.network.specs.Network.{no_link, plan_tests, says as said}
+use Rattle.network.specs.Network.{no_link, plan_tests, number}
 use Rattle.schedule.specs.declared.Refusal.{Refusal}
 use Rattle.schedule.specs.declared.Refusal.TheVariants.{NotASchedule, Plan, OutsideRules}
 use Rattle.schedule.specs.declared.Schedule.{Schedule}
@@ -39,7 +39,7 @@ schedule_read bs = cond (eqb (read_refusal bs) 0) (schedule_of bs) nothing
 -- the paper's number and index for each refusal; planning's are its own
 abbrev pub numbers : Refusal → ℕ × ℕ
 numbers NotASchedule = (31, 0)
-numbers (Plan r) = ((said (Err r)).refusal, 0)
+numbers (Plan r) = (number r, 0)
 numbers (OutsideRules k) = (32, k)
 
 -- those of what reading returns, "zero elsewhere"

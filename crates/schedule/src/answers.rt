@@ -3,7 +3,6 @@ ghost use Rattle.std.specs.Prelude.{◌≡◌};
 ghost use Rattle.schedule.specs.Calls.{numbers};
 
 use crate::Refusal;
-use network::PlanRefusal;
 
 // 31, 1 to 3 by planning, or 32.
 pub fn number_of(refusal: Refusal) -> u8
@@ -11,9 +10,7 @@ pub fn number_of(refusal: Refusal) -> u8
 {
     match refusal {
         Refusal::NotASchedule => 31,
-        Refusal::Plan(PlanRefusal::OutOfRange) => 1,
-        Refusal::Plan(PlanRefusal::BadLink) => 2,
-        Refusal::Plan(PlanRefusal::Parted) => 3,
+        Refusal::Plan(refusal) => u8::from(refusal),
         Refusal::OutsideRules(_) => 32,
     }
 }
