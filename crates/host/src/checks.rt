@@ -1,48 +1,53 @@
-// An order of checks: the first test that passes gives the refusal, which has its number.
-ghost use Rattle.std.specs.Prelude.{◌≡◌};
+// A refusal: where one is given, and its number.
+ghost use Rattle.std.specs.Prelude.{◌≡◌, cond};
 ghost use Rattle.host.specs.Answers.{number, refusal_of};
-ghost use Rattle.lists.specs.Tests.{or_if};
 
-use crate::{Refusal, Verdict};
+use crate::Refusal;
+use std::fmt;
 
-// The verdict so far, or where that is clear the refusal of a test that passes.
-pub(crate) fn or_if(found: Verdict, test: bool, refusal: Refusal) -> Verdict
-    ensures { refusal_of result ≡ or_if (refusal_of found) (number refusal) test }
+// One check of an order of checks: the first test that passes gives its refusal.
+pub(crate) fn refuse_if(test: bool, refusal: Refusal) -> Result<(), Refusal>
+    ensures { result ≡ cond test (Err refusal) (Ok tt) }
 {
-    match found {
-        Verdict::Refused(before) => Verdict::Refused(before),
-        Verdict::Clear => {
-            if test {
-                Verdict::Refused(refusal)
-            } else {
-                Verdict::Clear
-            }
-        }
-    }
+    if test { Err(refusal) } else { Ok(()) }
 }
 
 // The build paper's number of a refusal.
 pub fn number_of(refusal: Refusal) -> u8
     ensures { result ≡ number refusal }
 {
-    match refusal {
-        Refusal::OutOfRange => 1,
-        Refusal::BadLink => 2,
-        Refusal::Parted => 3,
-        Refusal::Unsound => 9,
-        Refusal::BadReading => 10,
-        Refusal::Behind => 11,
-        Refusal::SameStart => 12,
-        Refusal::WindowFull => 13,
-        Refusal::HistoryFull => 14,
-        Refusal::NotInPlan => 15,
-        Refusal::Early => 16,
-        Refusal::Late => 17,
-        Refusal::Past => 18,
-        Refusal::Known => 19,
-        Refusal::OtherHeld => 20,
-        Refusal::OwnNotHeld => 21,
-        Refusal::ShortBuffer => 22,
-        Refusal::BadValue => 23,
+    refusal as u8
+}
+
+impl From<Refusal> for u8 {
+    ghost from_gives = { λ refusal n. n ≡ number refusal };
+
+    fn from(refusal: Refusal) -> u8 {
+        number_of(refusal)
+    }
+}
+
+impl fmt::Display for Refusal {
+    fn fmt<W: fmt::Write>(&self, f: &mut fmt::Formatter<W>) -> fmt::Result {
+        f.write_str(match self {
+            Refusal::OutOfRange => "a plan number is out of range",
+            Refusal::BadLink => "a link end is n or more, a ≥ b, or a pair repeats",
+            Refusal::Parted => "some fault set leaves survivors not connected",
+            Refusal::Unsound => "the lent state is not sound",
+            Refusal::BadReading => "U is out of range, or on a start above the largest stamp",
+            Refusal::Behind => "U is less than the last reading",
+            Refusal::SameStart => "a start at the reading of the last start",
+            Refusal::WindowFull => "the fourth last start lies less than W back",
+            Refusal::HistoryFull => "32 orders are held",
+            Refusal::NotInPlan => "a host, own link or source that the plan lacks",
+            Refusal::Early => "second rules, U + hε ≤ T",
+            Refusal::Late => "second rules, U ≥ T + h(δ+ε)",
+            Refusal::Past => "U ≥ T + Δ",
+            Refusal::Known => "the same order is held under (T, source)",
+            Refusal::OtherHeld => "another order is held under (T, source)",
+            Refusal::OwnNotHeld => "the source is this host, and (T, source) is not held",
+            Refusal::ShortBuffer => "the lent buffer is too short for all that is due",
+            Refusal::BadValue => "a rule set other than 1 or 2, a stamp, hop or share out of range",
+        })
     }
 }

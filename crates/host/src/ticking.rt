@@ -6,13 +6,13 @@ ghost use Rattle.host.specs.State.{no_held, sound, bare};
 ghost use Rattle.host.specs.Answers.{refusal_of, says_tick};
 ghost use Rattle.host.specs.Tick.{due_of, due_in, waiting_in, written, tick_checks, tick_refusal, tick_answer, tick_says, tick_host, tick_list};
 
-use crate::checks::or_if;
+use crate::checks::refuse_if;
 use crate::entries::put_entry;
 use crate::history::is_due;
 use crate::sound::{frame_of, is_sound};
 use crate::states::{at_reading, later};
 use crate::unused::no_held;
-use crate::{Frame, Held, Host, Refusal, TickAnswer, Ticked, Verdict};
+use crate::{Frame, Held, Host, Refusal, Ticked};
 use clock::{Reading, is_reading};
 
 // Every order that is due leaves the history for the lent list; or the state comes back as it was, and the list keeps its bytes.
@@ -22,40 +22,36 @@ pub fn after_tick(host: Host, u: Reading, out: &mut [u8]) -> Ticked
     if !is_sound(host) {
         return Ticked {
             host,
-            answer: TickAnswer::Refused(Refusal::Unsound),
+            answer: Err(Refusal::Unsound),
         };
     }
     let count = due_count(host, u);
-    let answer = tick_answer(frame_of(host), u, out.len(), count);
-    match answer {
-        TickAnswer::Refused(refusal) => Ticked {
+    match tick_answer(frame_of(host), u, out.len(), count) {
+        Err(refusal) => Ticked {
             host,
-            answer: TickAnswer::Refused(refusal),
+            answer: Err(refusal),
         },
-        TickAnswer::Delivered(n) => Ticked {
+        Ok(delivered) => Ticked {
             host: tick_left(host, u, out),
-            answer: TickAnswer::Delivered(n),
+            answer: Ok(delivered),
         },
     }
 }
 
 // What a tick answers, by all of a sound state but its history, and by how many are due there.
-pub fn tick_answer(frame: Frame, u: Reading, room: usize, count: usize) -> TickAnswer
+pub fn tick_answer(frame: Frame, u: Reading, room: usize, count: usize) -> Result<usize, Refusal>
     ensures { says_tick result ≡ tick_answer (bare frame) u.0 room count }
 {
-    let found = tick_checks(frame, u, room, count);
-    match found {
-        Verdict::Refused(refusal) => TickAnswer::Refused(refusal),
-        Verdict::Clear => TickAnswer::Delivered(count),
-    }
+    tick_checks(frame, u, room, count)?;
+    Ok(count)
 }
 
-fn tick_checks(frame: Frame, u: Reading, room: usize, count: usize) -> Verdict
+fn tick_checks(frame: Frame, u: Reading, room: usize, count: usize) -> Result<(), Refusal>
     ensures { refusal_of result ≡ first_of (tick_checks (bare frame) u.0 room count) }
 {
-    let mut found = or_if(Verdict::Clear, !is_reading(u), Refusal::BadReading);
-    found = or_if(found, u.0 < frame.last.0, Refusal::Behind);
-    or_if(found, room / 16 < count, Refusal::ShortBuffer)
+    refuse_if(!is_reading(u), Refusal::BadReading)?;
+    refuse_if(u.0 < frame.last.0, Refusal::Behind)?;
+    refuse_if(room / 16 < count, Refusal::ShortBuffer)
 }
 
 fn tick_left(host: Host, u: Reading, out: &mut [u8]) -> Host
