@@ -6,7 +6,7 @@ ghost use Rattle.network.specs.Inside.{Pairs, paired, alike, spreads, Spreads};
 
 use crate::pairs::ITSELF;
 use crate::sets::is_in;
-use crate::{Faults, Link, Plan};
+use crate::{Faults, Link, NO_LINK, Plan};
 
 // How many of k links are left over when the pairs within reach are all that are wanted; `near` are within reach already.
 pub(crate) fn reach(joined: u64, all: u64, near: u64, k: u8) -> u8
@@ -44,13 +44,9 @@ pub fn link_survives(p: Plan, f: Faults, i: u8) -> bool
     !is_in(f.links, i) & !is_in(f.hosts, l.a) & !is_in(f.hosts, l.b)
 }
 
-fn link_of(links: [Link; 12], i: u8) -> Link
+// The link at a place, and the zero link past the last.
+pub fn link_of(links: [Link; 12], i: u8) -> Link
     ensures { result ≡ get_or links i no_link }
 {
-    let at = i as usize;
-    if at < 12 {
-        links[at]
-    } else {
-        Link { a: 0, b: 0 }
-    }
+    links.get(i as usize).copied().unwrap_or(NO_LINK)
 }
