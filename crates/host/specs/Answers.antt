@@ -1,5 +1,7 @@
 -- The paper's number and values for each case of an answer (01, "Refusal numbers"). Assumes nothing.
-use Rattle.std.specs.Prelude.{cond, ℕ, eqb, Result, Ok, Err}
+use Rattle.std.specs.Prelude.{List, cond, codes, ℕ, eqb, Result, Ok, Err}
+use Rattle.network.specs.declared.PlanRefusal.{PlanRefusal}
+use Rattle.network.specs.declared.PlanRefusal.TheVariants as plan
 use Rattle.host.specs.declared.Refusal.{Refusal}
 use Rattle.host.specs.declared.Refusal.TheVariants.{OutOfRange, BadLink, Parted, Unsound, BadReading, Behind, SameStart, WindowFull, HistoryFull, NotInPlan, Early, Late, Past, Known, OtherHeld, OwnNotHeld, ShortBuffer, BadValue}
 use Rattle.host.specs.declared.Sent.{Sent}
@@ -23,6 +25,32 @@ number OtherHeld = 20
 number OwnNotHeld = 21
 number ShortBuffer = 22
 number BadValue = 23
+
+-- planning's refusals are a making's first
+abbrev pub of_plan : PlanRefusal → Refusal
+of_plan plan.OutOfRange = OutOfRange
+of_plan plan.BadLink = BadLink
+of_plan plan.Parted = Parted
+
+abbrev pub words : Refusal → List ℕ
+words OutOfRange = codes "plan number out of range"
+words BadLink = codes "plan link of no two hosts, or twice"
+words Parted = codes "plan parted by a fault set"
+words Unsound = codes "state not sound"
+words BadReading = codes "reading out of range"
+words Behind = codes "reading less than the last"
+words SameStart = codes "start at the reading of the last start"
+words WindowFull = codes "fourth last start within the window"
+words HistoryFull = codes "32 orders held"
+words NotInPlan = codes "host, link or source not in the plan"
+words Early = codes "copy too early for its hop"
+words Late = codes "copy too late for its hop"
+words Past = codes "copy past its bound"
+words Known = codes "same order held under the name"
+words OtherHeld = codes "other order held under the name"
+words OwnNotHeld = codes "own order not held"
+words ShortBuffer = codes "lent buffer too short"
+words BadValue = codes "rule set, stamp, hop or share out of range"
 
 -- the refusal, and 0 for none
 abbrev pub refusal_of : {A : Type 0} → Result A Refusal → ℕ

@@ -1,8 +1,9 @@
 // A refusal: where one is given, and its number.
-ghost use Rattle.std.specs.Prelude.{◌≡◌, cond};
-ghost use Rattle.host.specs.Answers.{number, refusal_of};
+ghost use Rattle.std.specs.Prelude.{◌≡◌, cond, Some};
+ghost use Rattle.host.specs.Answers.{number, of_plan, words};
 
 use crate::Refusal;
+use network::PlanRefusal;
 use std::fmt;
 
 // One check of an order of checks: the first test that passes gives its refusal.
@@ -27,27 +28,42 @@ impl From<Refusal> for u8 {
     }
 }
 
+// Planning's refusals come first, as a making's.
+impl From<PlanRefusal> for Refusal {
+    ghost from_gives = { λ plan refusal. refusal ≡ of_plan plan };
+
+    fn from(plan: PlanRefusal) -> Refusal {
+        match plan {
+            PlanRefusal::OutOfRange => Refusal::OutOfRange,
+            PlanRefusal::BadLink => Refusal::BadLink,
+            PlanRefusal::Parted => Refusal::Parted,
+        }
+    }
+}
+
 impl fmt::Display for Refusal {
+    ghost output = { λ refusal. Some (words refusal) };
+
     fn fmt<W: fmt::Write>(&self, f: &mut fmt::Formatter<W>) -> fmt::Result {
-        f.write_str(match self {
-            Refusal::OutOfRange => "a plan number is out of range",
-            Refusal::BadLink => "a link end is n or more, a ≥ b, or a pair repeats",
-            Refusal::Parted => "some fault set leaves survivors not connected",
-            Refusal::Unsound => "the lent state is not sound",
-            Refusal::BadReading => "U is out of range, or on a start above the largest stamp",
-            Refusal::Behind => "U is less than the last reading",
-            Refusal::SameStart => "a start at the reading of the last start",
-            Refusal::WindowFull => "the fourth last start lies less than W back",
-            Refusal::HistoryFull => "32 orders are held",
-            Refusal::NotInPlan => "a host, own link or source that the plan lacks",
-            Refusal::Early => "second rules, U + hε ≤ T",
-            Refusal::Late => "second rules, U ≥ T + h(δ+ε)",
-            Refusal::Past => "U ≥ T + Δ",
-            Refusal::Known => "the same order is held under (T, source)",
-            Refusal::OtherHeld => "another order is held under (T, source)",
-            Refusal::OwnNotHeld => "the source is this host, and (T, source) is not held",
-            Refusal::ShortBuffer => "the lent buffer is too short for all that is due",
-            Refusal::BadValue => "a rule set other than 1 or 2, a stamp, hop or share out of range",
-        })
+        match self {
+            Refusal::OutOfRange => write!(f, "plan number out of range"),
+            Refusal::BadLink => write!(f, "plan link of no two hosts, or twice"),
+            Refusal::Parted => write!(f, "plan parted by a fault set"),
+            Refusal::Unsound => write!(f, "state not sound"),
+            Refusal::BadReading => write!(f, "reading out of range"),
+            Refusal::Behind => write!(f, "reading less than the last"),
+            Refusal::SameStart => write!(f, "start at the reading of the last start"),
+            Refusal::WindowFull => write!(f, "fourth last start within the window"),
+            Refusal::HistoryFull => write!(f, "32 orders held"),
+            Refusal::NotInPlan => write!(f, "host, link or source not in the plan"),
+            Refusal::Early => write!(f, "copy too early for its hop"),
+            Refusal::Late => write!(f, "copy too late for its hop"),
+            Refusal::Past => write!(f, "copy past its bound"),
+            Refusal::Known => write!(f, "same order held under the name"),
+            Refusal::OtherHeld => write!(f, "other order held under the name"),
+            Refusal::OwnNotHeld => write!(f, "own order not held"),
+            Refusal::ShortBuffer => write!(f, "lent buffer too short"),
+            Refusal::BadValue => write!(f, "rule set, stamp, hop or share out of range"),
+        }
     }
 }

@@ -1,8 +1,8 @@
 // Make a host.
 ghost use Rattle.std.specs.Prelude.{◌≡◌, cond, ◌≤◌, eqb, take};
 ghost use Rattle.lists.specs.Lists.{pad};
-ghost use Rattle.network.specs.Network.{no_link, m, worst, bounds, plan_refusal};
-ghost use Rattle.host.specs.Answers.{number, refusal_of};
+ghost use Rattle.network.specs.Network.{no_link, m};
+ghost use Rattle.host.specs.Answers.{refusal_of};
 ghost use Rattle.host.specs.Make.{unstarted, cleared, made, make_refusal, make_host};
 
 use crate::checks::refuse_if;
@@ -10,7 +10,7 @@ use crate::unused::no_held;
 use crate::{Host, Refusal};
 use clock::Reading;
 use network::planning::plan as planned;
-use network::{Bounds, Link, Plan, Planned};
+use network::{Bounds, Link, NO_LINK, Plan};
 use orders::is_rules;
 
 // A fresh host of the plan.
