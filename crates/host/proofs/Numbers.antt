@@ -3,6 +3,7 @@ use mathlib.Core.Path.{◌≡◌, refl, sym, ap, ◌∙◌}
 use mathlib.Core.Bool.{Bool, true, false, cond}
 use Prim.Native.Nat.{ℕ}
 use Rattle.std.specs.Prelude.{Result, Ok, Err}
+use Rattle.std.specs.Result.{IsErrAnd}
 use Rattle.host.specs.declared.Host.{Host}
 use Rattle.host.specs.Make.{made}
 use borrow.Author.Tests.{eqb-true}
@@ -76,6 +77,23 @@ tick_refusal_lem k count = go (eqb k 0) refl
     go : (t : Bool) → eqb k 0 ≡ t → (cond {A = SaidTick} t (record { refusal = 0; count = count }) (record { refusal = k; count = 0 })).refusal ≡ k
     go true e = sym (eqb-true k 0 e)
     go false e = refl
+
+-- a check that refused nothing has a test that failed
+pub passed : (t : Bool) (r : Refusal) (a : Result (Unit {0}) Refusal) → a ≡ cond t (Err r) (Ok tt) → a ≡ Ok tt → t ≡ false
+passed true r a e f = let g = sym e ∙ f in cc g
+passed false r a e f = refl
+
+pub failed : (t : Bool) (r s : Refusal) (a : Result (Unit {0}) Refusal) → a ≡ cond t (Err r) (Ok tt) → a ≡ Err s → (t ≡ true) × (s ≡ r)
+failed true r s a e f = (refl, let g = sym f ∙ e in cc g)
+failed false r s a e f = let g = sym e ∙ f in cc g
+
+pub said : (t : Bool) (r : Refusal) (a : Result (Unit {0}) Refusal) → a ≡ cond t (Err r) (Ok tt) → refusal_of a ≡ cond t (number r) 0
+said true r a e = ap refusal_of e
+said false r a e = ap refusal_of e
+
+pub err_is : {A : Type 0} (a : Result A Refusal) (r : Refusal) → IsErrAnd a (λ (s : Refusal). s ≡ r) → a ≡ Err r
+err_is (Ok x) r h = absurd h
+err_is (Err s) r h = ap Err h
 
 -- ---- the answer that says this
 

@@ -22,7 +22,13 @@ pub fn start(host: &mut Host, u: Reading, order: Order) -> Result<Sent, Refusal>
 }
 
 // Receive a copy of an order at a reading, over a link; refused, the state is as it was.
-pub fn receive(host: &mut Host, u: Reading, arrival: u8, hop: u8, copy: Held) -> Result<Sent, Refusal>
+pub fn receive(
+    host: &mut Host,
+    u: Reading,
+    arrival: u8,
+    hop: u8,
+    copy: Held,
+) -> Result<Sent, Refusal>
     ensures { (host.new ≡ receive_host host.old u arrival hop copy) × (says result ≡ receive_says host.old u.0 arrival hop copy) }
 {
     let after = after_receive(*host, u, arrival, hop, copy);

@@ -76,24 +76,24 @@ pub struct Seen {
 // Why a call was refused, under the build paper's number.
 #[derive(Clone, Copy, Debug, PartialEq, Eq)]
 pub enum Refusal {
-    OutOfRange = 1,   // a plan number is out of range
-    BadLink = 2,      // a link end is n or more, a ≥ b, or a pair repeats
-    Parted = 3,       // some fault set leaves survivors not connected
-    Unsound = 9,      // the lent state is not sound
-    BadReading = 10,  // U is out of range, or on a start above the largest stamp
-    Behind = 11,      // U is less than the last reading
-    SameStart = 12,   // a start at the reading of the last start
-    WindowFull = 13,  // the fourth last start lies less than W back
+    OutOfRange = 1, // a plan number is out of range
+    BadLink = 2, // a link end is n or more, a ≥ b, or a pair repeats
+    Parted = 3, // some fault set leaves survivors not connected
+    Unsound = 9, // the lent state is not sound
+    BadReading = 10, // U is out of range, or on a start above the largest stamp
+    Behind = 11, // U is less than the last reading
+    SameStart = 12, // a start at the reading of the last start
+    WindowFull = 13, // the fourth last start lies less than W back
     HistoryFull = 14, // 32 orders are held
-    NotInPlan = 15,   // a host, own link or source that the plan lacks
-    Early = 16,       // second rules, U + hε ≤ T
-    Late = 17,        // second rules, U ≥ T + h(δ+ε)
-    Past = 18,        // U ≥ T + Δ
-    Known = 19,       // the same order is held under (T, source)
-    OtherHeld = 20,   // another order is held under (T, source)
-    OwnNotHeld = 21,  // the source is this host, and (T, source) is not held
+    NotInPlan = 15, // a host, own link or source that the plan lacks
+    Early = 16, // second rules, U + hε ≤ T
+    Late = 17, // second rules, U ≥ T + h(δ+ε)
+    Past = 18, // U ≥ T + Δ
+    Known = 19, // the same order is held under (T, source)
+    OtherHeld = 20, // another order is held under (T, source)
+    OwnNotHeld = 21, // the source is this host, and (T, source) is not held
     ShortBuffer = 22, // the lent buffer is too short for all that is due
-    BadValue = 23,    // a rule set other than 1 or 2, a stamp, hop or share out of range
+    BadValue = 23, // a rule set other than 1 or 2, a stamp, hop or share out of range
 }
 
 // What an accepted start or copy is sent on: the links, bit i for link i of the plan, and the hop to send.

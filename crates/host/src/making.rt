@@ -59,13 +59,8 @@ fn clear(plan: Plan) -> Plan
 {
     let links = plan.links;
     Plan {
-        hosts: plan.hosts,
-        faulty_hosts: plan.faulty_hosts,
-        link_count: plan.link_count,
-        faulty_links: plan.faulty_links,
-        delay: plan.delay,
-        skew: plan.skew,
         links: first_links(links, plan.link_count as usize),
+        ..plan
     }
 }
 
@@ -73,12 +68,7 @@ fn first_links(links: [Link; 12], count: usize) -> [Link; 12]
     requires { count ≤ 12 }
     ensures { result ≡ pad 12 no_link (take count links) }
 {
-    let none = Link { a: 0, b: 0 };
-    let mut used = [none; 12];
-    let mut i = 0;
-    while i < count {
-        used[i] = links[i];
-        i += 1;
-    }
+    let mut used = [NO_LINK; 12];
+    used[..count].copy_from_slice(&links[..count]);
     used
 }

@@ -26,8 +26,8 @@ pub fn after_receive(host: Host, u: Reading, arrival: u8, hop: u8, copy: Held) -
             answer: Err(Refusal::Unsound),
         };
     }
-    let history = host.history;
-    let seen = look(history, host.held, copy);
+    let held = &host.history[..host.held];
+    let seen = look(held, copy);
     match receive_answer(frame_of(host), u, arrival, hop, copy, seen) {
         Err(refusal) => Acted {
             host,

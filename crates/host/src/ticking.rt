@@ -63,9 +63,8 @@ fn tick_left(host: Host, u: Reading, out: &mut [u8]) -> Host
         return later(host, u);
     }
     let starts = host.starts;
-    let history = host.history;
-    let held = host.held;
-    let left = deliver(out, history, held, host.bound, u);
+    let held = &host.history[..host.held];
+    let left = deliver(out, held, host.bound, u);
     let rest = left.history;
     at_reading(host, u, starts, host.started, rest, left.held)
 }
@@ -80,13 +79,13 @@ pub(crate) struct Rest {
 // How many orders are due.
 fn due_count(host: Host, u: Reading) -> usize
     requires { sound host ≡ true }
-    ensures { (result ≡ length (due_of host u.0)) × (result ≤ host.held) }
+    ensures { result ≡ length (due_of host u.0) }
 {
     if is_idle(host, u) {
         return 0;
     }
-    let history = host.history;
-    count_due(history, host.held, host.bound, u)
+    let held = &host.history[..host.held];
+    count_due(held, host.bound, u)
 }
 
 // Whether nothing is due: the first of those held is due before all others.
@@ -99,41 +98,28 @@ fn is_idle(host: Host, u: Reading) -> bool
 }
 
 // How many of those held are due.
-fn count_due(history: [Held; 32], held: usize, bound: u64, u: Reading) -> usize
-    requires { held ≤ 32 }
-    ensures { (result ≡ length (due_in bound u.0 (take held history))) × (result ≤ held) }
+fn count_due(history: &[Held], bound: u64, u: Reading) -> usize
+    ensures { result ≡ length (due_in bound u.0 history.now) }
 {
-    let mut n: usize = 0;
-    let mut i = 0;
-    while i < held {
-        let e = history[i];
-        i += 1;
-        if is_due(e, bound, u) {
-            n += 1;
-        }
-    }
-    n
+    history.iter().filter(|e| is_due(**e, bound, u)).count()
 }
 
 // Writes the entries of those that are due from the front of the lent list, and keeps the others.
-fn deliver(out: &mut [u8], history: [Held; 32], held: usize, bound: u64, u: Reading) -> Rest
-    requires { (held ≤ 32) × (16 * length (due_in bound u.0 (take held history)) ≤ length out.old) }
-    ensures held_value { result.held ≡ length (waiting_in bound u.0 (take held history)) }
-    ensures history_value { result.history ≡ pad 32 no_held (waiting_in bound u.0 (take held history)) }
-    ensures out_after { out.new ≡ written (due_in bound u.0 (take held history)) out.old }
+fn deliver(out: &mut [u8], history: &[Held], bound: u64, u: Reading) -> Rest
+    requires { (length history.now ≤ 32) × (16 * length (due_in bound u.0 history.now) ≤ length out.old) }
+    ensures held_value { result.held ≡ length (waiting_in bound u.0 history.now) }
+    ensures history_value { result.history ≡ pad 32 no_held (waiting_in bound u.0 history.now) }
+    ensures out_after { out.new ≡ written (due_in bound u.0 history.now) out.old }
 {
     let mut rest = [no_held(); 32];
     let mut waiting: usize = 0;
     let mut delivered: usize = 0;
-    let mut i = 0;
-    while i < held {
-        let e = history[i];
-        i += 1;
-        if is_due(e, bound, u) {
-            put_entry(out, 16 * delivered, e);
+    for e in history {
+        if is_due(*e, bound, u) {
+            put_entry(out, 16 * delivered, *e);
             delivered += 1;
         } else {
-            rest[waiting] = e;
+            rest[waiting] = *e;
             waiting += 1;
         }
     }

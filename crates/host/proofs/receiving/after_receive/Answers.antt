@@ -22,8 +22,8 @@ returns-then-not-is_sound c =
     let e = unsound_first h (receive_checks h a.u.0 a.arrival a.hop x (any (same_held x) (held_of h)) (any (other_held x) (held_of h)) (any (same_name x) (held_of h))) (sym c.is_sound.ensures ∙ c.if-not-is_sound.true) in
     (kept Unsound _ _ _ e, says_refused Unsound _ _ _ e)
 
-pub look-seen-requires : goal.look-seen-requires
-look-seen-requires c = (sound_is c.args.host (sym c.is_sound.ensures ∙ c.if-not-is_sound.false)).held
+pub shared_ref_as_front-held : goal.shared_ref_as_front-held
+shared_ref_as_front-held c = (sound_is c.args.host (sym c.is_sound.ensures ∙ c.if-not-is_sound.false)).held
 
 pub receive_held-requires : goal.receive_held-requires
 receive_held-requires c =
