@@ -10,6 +10,7 @@ use Rattle.lists.proofs.One.{one_result, one_answer, one_call}
 use Rattle.clock.specs.declared.Reading.{Reading}
 use Rattle.orders.specs.declared.Order.{Order}
 use Rattle.network.specs.declared.Plan.{Plan}
+use Rattle.network.specs.declared.PlanRefusal.{PlanRefusal}
 use Rattle.host.specs.declared.Frame.{Frame}
 use Rattle.host.specs.declared.Held.{Held}
 use Rattle.host.specs.declared.Host.{Host}
@@ -20,7 +21,7 @@ use Rattle.host.specs.declared.Ticked.{Ticked}
 use Rattle.host.specs.declared.Refusal.{Refusal}
 use Rattle.host.specs.State.{no_reading, bare, framed, sound}
 use Rattle.host.specs.Entries.{entry_of}
-use Rattle.host.specs.Answers.{number, refusal_of, says, says_tick}
+use Rattle.host.specs.Answers.{number, of_plan, refusal_of, says, says_tick}
 use Rattle.host.specs.Make.{made, make_refusal, make_host}
 use Rattle.host.specs.Start.{with_start, start_answer, start_says, start_host}
 use Rattle.host.specs.Receive.{receive_answer, receive_says, receive_host}
@@ -47,6 +48,9 @@ entry_one e r s = one_result
 
 pub number_of_one : (r : Refusal) (m n : ℕ) → m ≡ number r → n ≡ number r → m ≡ n
 number_of_one r m n = one_result
+
+pub refusal_from_plan_one : (q : PlanRefusal) (r s : Refusal) → r ≡ of_plan q → s ≡ of_plan q → r ≡ s
+refusal_from_plan_one q r s = one_result
 
 pub make_one : (p : Plan) (rules own : ℕ) (r s : Result Host Refusal)
     → (made r ≡ make_host p rules own) × (refusal_of r ≡ make_refusal p rules own)

@@ -28,14 +28,12 @@ pub fn after_receive(host: Host, u: Reading, arrival: u8, hop: u8, copy: Held) -
     }
     let held = &host.history[..host.held];
     let seen = look(held, copy);
-    match receive_answer(frame_of(host), u, arrival, hop, copy, seen) {
-        Err(refusal) => Acted {
-            host,
-            answer: Err(refusal),
-        },
-        Ok(sent) => Acted {
+    let answer = receive_answer(frame_of(host), u, arrival, hop, copy, seen);
+    match answer {
+        Err(_) => Acted { host, answer },
+        Ok(_) => Acted {
             host: receive_held(host, u, arrival, hop, copy),
-            answer: Ok(sent),
+            answer,
         },
     }
 }

@@ -26,14 +26,12 @@ pub fn after_start(host: Host, u: Reading, order: Order) -> Acted
             answer: Err(Refusal::Unsound),
         };
     }
-    match start_answer(frame_of(host), u, order) {
-        Err(refusal) => Acted {
-            host,
-            answer: Err(refusal),
-        },
-        Ok(sent) => Acted {
+    let answer = start_answer(frame_of(host), u, order);
+    match answer {
+        Err(_) => Acted { host, answer },
+        Ok(_) => Acted {
             host: start_held(host, u, order),
-            answer: Ok(sent),
+            answer,
         },
     }
 }

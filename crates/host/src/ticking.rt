@@ -26,14 +26,12 @@ pub fn after_tick(host: Host, u: Reading, out: &mut [u8]) -> Ticked
         };
     }
     let count = due_count(host, u);
-    match tick_answer(frame_of(host), u, out.len(), count) {
-        Err(refusal) => Ticked {
-            host,
-            answer: Err(refusal),
-        },
-        Ok(delivered) => Ticked {
+    let answer = tick_answer(frame_of(host), u, out.len(), count);
+    match answer {
+        Err(_) => Ticked { host, answer },
+        Ok(_) => Ticked {
             host: tick_left(host, u, out),
-            answer: Ok(delivered),
+            answer,
         },
     }
 }

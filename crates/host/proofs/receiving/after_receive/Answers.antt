@@ -28,19 +28,19 @@ shared_ref_as_front-held c = (sound_is c.args.host (sym c.is_sound.ensures ∙ c
 pub receive_held-requires : goal.receive_held-requires
 receive_held-requires c =
     let a = c.args in
-    let said = receive_said a.host a.u.0 a.arrival a.hop a.copy _ _ _ _ (sym c.is_sound.ensures ∙ c.if-not-is_sound.false) c.frame_of.ensures (c.look-seen.ensures.same_value, (c.look-seen.ensures.other_value, c.look-seen.ensures.named_value)) c.receive_answer.ensures in
+    let said = receive_said a.host a.u.0 a.arrival a.hop a.copy _ _ _ _ (sym c.is_sound.ensures ∙ c.if-not-is_sound.false) c.frame_of.ensures (c.look-seen.ensures.same_value, (c.look-seen.ensures.other_value, c.look-seen.ensures.named_value)) c.receive_answer-answer.ensures in
     sym (ap (λ (w : Said). w.refusal) said ∙ said_refusal (receive_refusal a.host a.u.0 a.arrival a.hop a.copy) _ _) ∙ ap (λ (x : Result Sent Refusal). (says x).refusal) c.in-Ok.is
 
 pub returns-in-Err : goal.returns-in-Err
 returns-in-Err c =
     let a = c.args in
-    let said = receive_said a.host a.u.0 a.arrival a.hop a.copy _ _ _ _ (sym c.is_sound.ensures ∙ c.if-not-is_sound.false) c.frame_of.ensures (c.look-seen.ensures.same_value, (c.look-seen.ensures.other_value, c.look-seen.ensures.named_value)) c.receive_answer.ensures in
-    let w = c.in-Err.refusal in
+    let said = receive_said a.host a.u.0 a.arrival a.hop a.copy _ _ _ _ (sym c.is_sound.ensures ∙ c.if-not-is_sound.false) c.frame_of.ensures (c.look-seen.ensures.same_value, (c.look-seen.ensures.other_value, c.look-seen.ensures.named_value)) c.receive_answer-answer.ensures in
+    let w = c.in-Err.field-0 in
     let e : number w ≡ receive_refusal a.host a.u.0 a.arrival a.hop a.copy = ap (λ (x : Result Sent Refusal). (says x).refusal) (sym c.in-Err.is) ∙ ap (λ (w : Said). w.refusal) said ∙ said_refusal (receive_refusal a.host a.u.0 a.arrival a.hop a.copy) _ _ in
-    (kept w _ _ _ e, ap says (sym c.in-Err.is) ∙ said)
+    (kept w _ _ _ e, said)
 
 pub returns-in-Ok : goal.returns-in-Ok
 returns-in-Ok c =
     let a = c.args in
-    let said = receive_said a.host a.u.0 a.arrival a.hop a.copy _ _ _ _ (sym c.is_sound.ensures ∙ c.if-not-is_sound.false) c.frame_of.ensures (c.look-seen.ensures.same_value, (c.look-seen.ensures.other_value, c.look-seen.ensures.named_value)) c.receive_answer.ensures in
-    (c.receive_held.ensures, ap says (sym c.in-Ok.is) ∙ said)
+    let said = receive_said a.host a.u.0 a.arrival a.hop a.copy _ _ _ _ (sym c.is_sound.ensures ∙ c.if-not-is_sound.false) c.frame_of.ensures (c.look-seen.ensures.same_value, (c.look-seen.ensures.other_value, c.look-seen.ensures.named_value)) c.receive_answer-answer.ensures in
+    (c.receive_held.ensures, said)

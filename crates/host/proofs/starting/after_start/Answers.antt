@@ -20,19 +20,19 @@ returns-then-not-is_sound c =
 pub start_held-requires : goal.start_held-requires
 start_held-requires c =
     let a = c.args in
-    let said = start_said a.host a.u.0 a.order _ (sym c.is_sound.ensures ∙ c.if-not-is_sound.false) c.frame_of.ensures c.start_answer.ensures in
+    let said = start_said a.host a.u.0 a.order _ (sym c.is_sound.ensures ∙ c.if-not-is_sound.false) c.frame_of.ensures c.start_answer-answer.ensures in
     sym (ap (λ (w : Said). w.refusal) said ∙ said_refusal (start_refusal a.host a.u.0 a.order) _ _) ∙ ap (λ (x : Result Sent Refusal). (says x).refusal) c.in-Ok.is
 
 pub returns-in-Err : goal.returns-in-Err
 returns-in-Err c =
     let a = c.args in
-    let said = start_said a.host a.u.0 a.order _ (sym c.is_sound.ensures ∙ c.if-not-is_sound.false) c.frame_of.ensures c.start_answer.ensures in
-    let w = c.in-Err.refusal in
+    let said = start_said a.host a.u.0 a.order _ (sym c.is_sound.ensures ∙ c.if-not-is_sound.false) c.frame_of.ensures c.start_answer-answer.ensures in
+    let w = c.in-Err.field-0 in
     let e : number w ≡ start_refusal a.host a.u.0 a.order = ap (λ (x : Result Sent Refusal). (says x).refusal) (sym c.in-Err.is) ∙ ap (λ (w : Said). w.refusal) said ∙ said_refusal (start_refusal a.host a.u.0 a.order) _ _ in
-    (kept w _ _ _ e, ap says (sym c.in-Err.is) ∙ said)
+    (kept w _ _ _ e, said)
 
 pub returns-in-Ok : goal.returns-in-Ok
 returns-in-Ok c =
     let a = c.args in
-    let said = start_said a.host a.u.0 a.order _ (sym c.is_sound.ensures ∙ c.if-not-is_sound.false) c.frame_of.ensures c.start_answer.ensures in
-    (c.start_held.ensures, ap says (sym c.in-Ok.is) ∙ said)
+    let said = start_said a.host a.u.0 a.order _ (sym c.is_sound.ensures ∙ c.if-not-is_sound.false) c.frame_of.ensures c.start_answer-answer.ensures in
+    (c.start_held.ensures, said)

@@ -21,19 +21,19 @@ returns-then-not-is_sound c =
 pub tick_left-requires : goal.tick_left-requires
 tick_left-requires c =
     let a = c.args in
-    let said = tick_said a.host a.u.0 (length a.out.now) _ _ (sym c.is_sound.ensures ∙ c.if-not-is_sound.false) c.frame_of.ensures c.due_count-count.ensures c.tick_answer.ensures in
+    let said = tick_said a.host a.u.0 (length a.out.now) _ _ (sym c.is_sound.ensures ∙ c.if-not-is_sound.false) c.frame_of.ensures c.due_count-count.ensures c.tick_answer-answer.ensures in
     sym (ap (λ (w : SaidTick). w.refusal) said ∙ tick_refusal_lem (tick_refusal a.host a.u.0 (length a.out.now)) _) ∙ ap (λ (x : Result ℕ Refusal). (says_tick x).refusal) c.in-Ok.is
 
 pub returns-in-Err : goal.returns-in-Err
 returns-in-Err c =
     let a = c.args in
-    let said = tick_said a.host a.u.0 (length a.out.now) _ _ (sym c.is_sound.ensures ∙ c.if-not-is_sound.false) c.frame_of.ensures c.due_count-count.ensures c.tick_answer.ensures in
-    let w = c.in-Err.refusal in
+    let said = tick_said a.host a.u.0 (length a.out.now) _ _ (sym c.is_sound.ensures ∙ c.if-not-is_sound.false) c.frame_of.ensures c.due_count-count.ensures c.tick_answer-answer.ensures in
+    let w = c.in-Err.field-0 in
     let e : number w ≡ tick_refusal a.host a.u.0 (length a.out.now) = ap (λ (x : Result ℕ Refusal). (says_tick x).refusal) (sym c.in-Err.is) ∙ ap (λ (w : SaidTick). w.refusal) said ∙ tick_refusal_lem (tick_refusal a.host a.u.0 (length a.out.now)) _ in
-    (kept w _ _ _ e, (ap says_tick (sym c.in-Err.is) ∙ said, kept w _ _ _ e))
+    (kept w _ _ _ e, (said, kept w _ _ _ e))
 
 pub returns-in-Ok : goal.returns-in-Ok
 returns-in-Ok c =
     let a = c.args in
-    let said = tick_said a.host a.u.0 (length a.out.now) _ _ (sym c.is_sound.ensures ∙ c.if-not-is_sound.false) c.frame_of.ensures c.due_count-count.ensures c.tick_answer.ensures in
-    (c.tick_left.ensures.value, (ap says_tick (sym c.in-Ok.is) ∙ said, c.tick_left.ensures.out_after))
+    let said = tick_said a.host a.u.0 (length a.out.now) _ _ (sym c.is_sound.ensures ∙ c.if-not-is_sound.false) c.frame_of.ensures c.due_count-count.ensures c.tick_answer-answer.ensures in
+    (c.tick_left.ensures.value, (said, c.tick_left.ensures.out_after))

@@ -43,34 +43,34 @@ loop-e-preserved c =
     let e : Held = get_or l s.e-index no_held in
     let inside : s.e-index < length l = search rules in
     elim c.if-is_due.branch [
-    then-is_due w ↦
-        let test : p e ≡ true = sym c.is_due.ensures ∙ w.if-is_due.true in
-        let yes = keep_yes p no_held l s.e-index inside test in
-        let no = keep_no q no_held l s.e-index inside (ap not test) in (
-          w.delivered-is ∙ ap (λ (k : ℕ). k + 1) s.invariant.0 ∙ sym (count_yes p no_held l s.e-index inside test),
-          w.waiting-is ∙ s.invariant.1 ∙ sym (ap length no),
-          rw (w.delivered-is, w.waiting-is) (omega arith),
-          w.rest-is ∙ s.invariant.3 ∙ ap (λ (t : List Held). pad 32 no_held t) (sym no),
-          c.if-is_due.auto.out ∙ s.invariant.4,
-          rw w.delivered-is
-          (w.out-is
-              ∙ w.put_entry.ensures
-              ∙ entries_turn (keep p (take s.e-index l)) e s.out a.out.now s.delivered s.invariant.0 s.invariant.5
-              ∙ ap (λ (t : List Held). entries_of t ++ drop (16 * (s.delivered + 1)) a.out.now) (sym yes)),
-        )
-    | else-is_due w ↦
-        let test : p e ≡ false = sym c.is_due.ensures ∙ w.if-is_due.false in
-        let yes = keep_yes q no_held l s.e-index inside (ap not test) in
-        let no = keep_no p no_held l s.e-index inside test in (
-          w.delivered-is ∙ s.invariant.0 ∙ sym (ap length no),
-          w.waiting-is ∙ ap (λ (k : ℕ). k + 1) s.invariant.1 ∙ sym (count_yes q no_held l s.e-index inside (ap not test)),
-          rw (w.delivered-is, w.waiting-is) (omega arith),
-          w.rest-is
-              ∙ ap (λ (t : List Held). set t s.waiting e) s.invariant.3
-              ∙ ap (λ (k : ℕ). set (pad 32 no_held (keep q (take s.e-index l))) k e) s.invariant.1
-              ∙ pad_more 32 no_held e (keep q (take s.e-index l)) (omega arith)
-              ∙ ap (λ (t : List Held). pad 32 no_held t) (sym yes),
-          c.if-is_due.auto.out ∙ s.invariant.4,
-          rw w.delivered-is (w.out-is ∙ s.invariant.5 ∙ ap (λ (t : List Held). entries_of t ++ drop (16 * s.delivered) a.out.now) (sym no)),
-        )
+      | then-is_due w ↦
+          let test : p e ≡ true = sym c.is_due.ensures ∙ w.if-is_due.true in
+          let yes = keep_yes p no_held l s.e-index inside test in
+          let no = keep_no q no_held l s.e-index inside (ap not test) in (
+            w.delivered-is ∙ ap (λ (k : ℕ). k + 1) s.invariant.0 ∙ sym (count_yes p no_held l s.e-index inside test),
+            w.waiting-is ∙ s.invariant.1 ∙ sym (ap length no),
+            rw (w.delivered-is, w.waiting-is) (omega arith),
+            w.rest-is ∙ s.invariant.3 ∙ ap (λ (t : List Held). pad 32 no_held t) (sym no),
+            c.if-is_due.auto.out ∙ s.invariant.4,
+            rw w.delivered-is
+                (w.out-is
+                ∙ w.put_entry.ensures
+                ∙ entries_turn (keep p (take s.e-index l)) e s.out a.out.now s.delivered s.invariant.0 s.invariant.5
+                ∙ ap (λ (t : List Held). entries_of t ++ drop (16 * (s.delivered + 1)) a.out.now) (sym yes)),
+          )
+      | else-is_due w ↦
+          let test : p e ≡ false = sym c.is_due.ensures ∙ w.if-is_due.false in
+          let yes = keep_yes q no_held l s.e-index inside (ap not test) in
+          let no = keep_no p no_held l s.e-index inside test in (
+            w.delivered-is ∙ s.invariant.0 ∙ sym (ap length no),
+            w.waiting-is ∙ ap (λ (k : ℕ). k + 1) s.invariant.1 ∙ sym (count_yes q no_held l s.e-index inside (ap not test)),
+            rw (w.delivered-is, w.waiting-is) (omega arith),
+            w.rest-is
+                ∙ ap (λ (t : List Held). set t s.waiting e) s.invariant.3
+                ∙ ap (λ (k : ℕ). set (pad 32 no_held (keep q (take s.e-index l))) k e) s.invariant.1
+                ∙ pad_more 32 no_held e (keep q (take s.e-index l)) (omega arith)
+                ∙ ap (λ (t : List Held). pad 32 no_held t) (sym yes),
+            c.if-is_due.auto.out ∙ s.invariant.4,
+            rw w.delivered-is (w.out-is ∙ s.invariant.5 ∙ ap (λ (t : List Held). entries_of t ++ drop (16 * s.delivered) a.out.now) (sym no)),
+          )
     ]
