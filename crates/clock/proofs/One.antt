@@ -3,17 +3,16 @@ use mathlib.Core.Path.{◌≡◌}
 use mathlib.Core.Bool.{Bool}
 use Prim.Native.Nat.{ℕ, ◌+◌}
 use lib.Dec.{leb}
+use Rattle.std.specs.Prelude.{Option}
 use Rattle.lists.proofs.One.{one_result}
 use Rattle.clock.specs.Clock.{largest_reading, largest_stamp, shown, showing}
 use Rattle.clock.specs.declared.Reading.{Reading}
 use Rattle.clock.specs.declared.Tick.{Tick}
-use Rattle.clock.specs.declared.Shown.{Shown}
-use Rattle.clock.specs.declared.Showing.{Showing}
 
-pub reading_at_one : (t : Tick) (offset : ℕ) (r s : Shown) → r ≡ shown t offset → s ≡ shown t offset → r ≡ s
+pub reading_at_one : (t : Tick) (offset : ℕ) (r s : Option Reading) → r ≡ shown t offset → s ≡ shown t offset → r ≡ s
 reading_at_one t offset r s = one_result
 
-pub tick_at_one : (u : Reading) (offset : ℕ) (r s : Showing) → r ≡ showing u offset → s ≡ showing u offset → r ≡ s
+pub tick_at_one : (u : Reading) (offset : ℕ) (r s : Option Tick) → r ≡ showing u offset → s ≡ showing u offset → r ≡ s
 tick_at_one u offset r s = one_result
 
 pub is_reading_one : (u : Reading) (r s : Bool) → r ≡ leb u.0 largest_reading → s ≡ leb u.0 largest_reading → r ≡ s

@@ -6,54 +6,31 @@ ghost use Rattle.clock.specs.Clock.{largest_reading, largest_stamp, shown, showi
 
 // What a host's clock shows.
 #[repr(C)]
-#[derive(Clone, Copy)]
+#[derive(Clone, Copy, Debug, PartialEq, Eq, PartialOrd, Ord)]
 pub struct Reading(pub u64);
 
 // Real time.
-#[derive(Clone, Copy)]
+#[derive(Clone, Copy, Debug, PartialEq, Eq, PartialOrd, Ord)]
 pub struct Tick(pub u64);
 
 pub const LARGEST_READING: u64 = 1_099_511_627_775;
 
 pub const LARGEST_STAMP: u64 = 1_099_511_623_679;
 
-// What a clock shows at a tick.
-#[derive(Clone, Copy)]
-pub enum Shown {
-    At(Reading),
-    Past,
-}
-
-// The tick at which a clock shows a reading.
-#[derive(Clone, Copy)]
-pub enum Showing {
-    At(Tick),
-    Never,
-}
-
 // The reading at a tick on a clock of this offset, unless it is past the largest reading.
-pub fn reading_at(tick: Tick, offset: u8) -> Shown
+pub fn reading_at(tick: Tick, offset: u8) -> Option<Reading>
     ensures { result ≡ shown tick offset }
 {
-    let ahead = offset as u64;
-    if tick.0 <= LARGEST_READING - ahead {
-        return Shown::At(Reading(tick.0 + ahead));
-    }
-    Shown::Past
+    let reading = Reading(tick.0.checked_add(u64::from(offset))?);
+    is_reading(reading).then_some(reading)
 }
 
 // The tick at which a clock of this offset shows a reading; one that it is set past, or cannot show, it shows at none.
-pub fn tick_at(reading: Reading, offset: u8) -> Showing
+pub fn tick_at(reading: Reading, offset: u8) -> Option<Tick>
     ensures { result ≡ showing reading offset }
 {
-    let ahead = offset as u64;
-    if reading.0 < ahead {
-        return Showing::Never;
-    }
-    if reading.0 > LARGEST_READING {
-        return Showing::Never;
-    }
-    Showing::At(Tick(reading.0 - ahead))
+    let tick = Tick(reading.0.checked_sub(u64::from(offset))?);
+    is_reading(reading).then_some(tick)
 }
 
 // Whether a reading is in range.
@@ -74,8 +51,5 @@ pub fn is_stamp(reading: Reading) -> bool
 pub fn reached(from: Reading, span: u64, at: Reading) -> bool
     ensures { result ≡ leb (from.0 + span) at.0 }
 {
-    if at.0 < span {
-        return false;
-    }
-    from.0 <= at.0 - span
+    span <= at.0 && from.0 <= at.0 - span
 }

@@ -6,12 +6,11 @@ use Prim.Native.Nat.{ℕ}
 use native.Mathlib.Omega.{arith}
 use borrow.Author.Tests.{eq-eqb, ne_eqb, eqb-true, eqb-false}
 use lib.Dec.{eqb}
+use Rattle.std.specs.Prelude.{Result, Ok, Err}
 use Rattle.lists.specs.Tests.{first_of}
 use Rattle.fields.specs.Faults.{fault, verdict, first}
 use Rattle.fields.specs.declared.Fault.{Fault}
 use Rattle.fields.specs.declared.Fault.TheVariants.{CutShort, WrongTag, WrongLength, WrongValue, LeftOver}
-use Rattle.fields.specs.declared.Verdict.{Verdict}
-use Rattle.fields.specs.declared.Verdict.TheVariants.{Right, Wrong}
 
 -- ---- faults by their numbers
 
@@ -30,12 +29,12 @@ module _ (at : ℕ) (cs : List (ℕ × Bool)) (fs : List (ℕ × List (ℕ × Bo
   first_next e = rw (eq-eqb (first_of cs) 0 e)
 
   -- by a verdict on the first of them
-  module _ (v : Verdict) (e : verdict v ≡ first_of cs) where
-    pub first_wrong : (f : Fault) → v ≡ Wrong f → (fault f, at) ≡ first ((at, cs) ∷ fs)
+  module _ (v : Result (Unit {0}) Fault) (e : verdict v ≡ first_of cs) where
+    pub first_wrong : (f : Fault) → v ≡ Err f → (fault f, at) ≡ first ((at, cs) ∷ fs)
     unfolding first
     first_wrong f w = let n : fault f ≡ first_of cs = sym (ap verdict w) ∙ e in rw (← n, ne_eqb (fault f) 0 (fault_some f))
 
-    pub first_right : v ≡ Right → first ((at, cs) ∷ fs) ≡ first fs
+    pub first_right : v ≡ Ok tt → first ((at, cs) ∷ fs) ≡ first fs
     first_right r = first_next (sym e ∙ ap verdict r)
 
 -- no field is at fault

@@ -2,12 +2,13 @@
 use mathlib.Core.Path.{◌≡◌, refl, sym, ap, ap₂, ◌∙◌}
 use mathlib.Core.Bool.{true, ◌&&◌}
 use mathlib.Core.List.{List, [], ◌∷◌, ◌++◌, append_assoc}
-use Prim.Native.Nat.{ℕ, ◌+◌, ◌^◌, ◌≤◌, ◌<◌, suc-le-suc, min}
-use native.Mathlib.Nat.{le_trans}
+use Prim.Native.Nat.{ℕ, ◌+◌, ◌^◌, ◌≤◌, ◌<◌, suc-le-suc}
+use native.Mathlib.Nat.{le_trans, min-eq_right}
 use native.Mathlib.Omega.{arith}
 use borrow.Author.Tests.{leb-true, le-leb, eqb-true, eq-eqb, not-false}
 use lib.Dec.{leb}
 use lib.ListN.{length, length-append}
+use Rattle.std.specs.Prelude.{Ok}
 use Rattle.lists.specs.Bytes.{be, val_at}
 use Rattle.lists.specs.Lists.{flat}
 use Rattle.lists.specs.Tests.{first_of}
@@ -17,7 +18,6 @@ use Rattle.lists.proofs.ByteLaws.{Bytes, length_be, part, part_add, be_val, val_
 use Rattle.fields.specs.Fields.{field, number_at, stated_at, value_checks}
 use Rattle.fields.specs.Slots.{wrong_length, wrong_number, slot_checks, span, filled, slot_fields, numbers_at}
 use Rattle.fields.specs.declared.Slot.{Slot}
-use Rattle.fields.specs.declared.Verdict.TheVariants.{Right}
 use Rattle.fields.proofs.Checks.{Clear}
 use Rattle.fields.proofs.Placing.{length_field}
 use Rattle.fields.proofs.Reading.{HeadIs, head_is, past_head}
@@ -65,9 +65,6 @@ slot_is bs at s e =
       largest = leb-true x s.largest (and_right (leb s.least x) (leb x s.largest) both);
     }
 
-narrow_min : (k : ℕ) → k ≤ 8 → min 8 k ≡ k
-narrow_min k h = omega arith
-
 module _ (bs : List ℕ) (small : Bytes bs) where
   slot_back : (at : ℕ) (s : Slot) → Good s → SlotIs bs at s → field s.tag (be s.width (number_at bs (at + 3) s.width)) ≡ part bs at (3 + s.width)
   slot_back at s g i =
@@ -75,7 +72,7 @@ module _ (bs : List ℕ) (small : Bytes bs) where
       let value : List ℕ = be w (number_at bs (at + 3) w) in
       let long : length value ≡ w = length_be w (number_at bs (at + 3) w) in
       let stands : value ≡ part bs (at + 3) (length value) =
-      ap (λ (k : ℕ). be w (val_at bs (at + 3) k)) (narrow_min w g.narrow) ∙ be_val bs small (at + 3) w i.room ∙ ap (part bs (at + 3)) (sym long) in
+      ap (λ (k : ℕ). be w (val_at bs (at + 3) k)) (min-eq_right g.narrow) ∙ be_val bs small (at + 3) w i.room ∙ ap (part bs (at + 3)) (sym long) in
       field_part bs small at s.tag value i.head (i.long ∙ sym long) stands ∙ ap (λ (k : ℕ). part bs at (3 + k)) long
 
   -- ---- what is read writes back
@@ -102,7 +99,7 @@ module _ (bs pre post : List ℕ) (at : ℕ) (s : Slot) (x : ℕ) (g : Good s) (
   unfolding value
   number_there =
       let fits : x < 256 ^ s.width = le_trans (suc-le-suc high) g.large in
-      ap (val_at bs (at + 3)) (narrow_min s.width g.narrow)
+      ap (val_at bs (at + 3)) (min-eq_right g.narrow)
       ∙ val_be s.width x (front bs pre post value at s.tag e l) post bs (at + 3) fits (after_head bs pre post value at s.tag e l) (length_front bs pre post value at s.tag e l)
 
   slot_there : first_of (slot_checks bs at s) ≡ 0
@@ -112,7 +109,7 @@ module _ (bs pre post : List ℕ) (at : ℕ) (s : Slot) (x : ℕ) (g : Good s) (
       let stated : stated_at bs at ≡ s.width = stated_there bs pre post value at s.tag e l g.byte short ∙ length_be s.width x in
       let none : 0 ≡ first_of (value_checks (wrong_length bs at s) (wrong_number bs at s)) =
       simp (eq-eqb _ _ stated, number_there, le-leb _ _ low, le-leb _ _ high) in
-      sym (past_head bs at s.tag Right (sym (head_there bs pre post value at s.tag e l g.byte short)) (wrong_length bs at s) (wrong_number bs at s) 0 refl none)
+      sym (past_head bs at s.tag (Ok tt) (sym (head_there bs pre post value at s.tag e l g.byte short)) (wrong_length bs at s) (wrong_number bs at s) 0 refl none)
 
 pub slots_there : (bs pre post : List ℕ) (at : ℕ) (ss : List Slot) (xs : List ℕ) → AllGood ss → Within ss xs → bs ≡ pre ++ (flat (filled ss xs) ++ post) → length pre ≡ at
     → Clear (slot_fields bs at ss) × (numbers_at bs at ss ≡ xs)

@@ -4,11 +4,14 @@
 mod read;
 mod write;
 
+ghost use Rattle.std.specs.Prelude.{◌≡◌};
+ghost use Rattle.fields.specs.Faults.{fault};
+
 pub use read::{byte_at, head_fault, slot_fault, value_at, value_fault};
 pub use write::{put, put_slot};
 
 // What is wrong with a field; and bytes after the last one.
-#[derive(Clone, Copy)]
+#[derive(Clone, Copy, Debug, PartialEq, Eq)]
 pub enum Fault {
     CutShort,
     WrongTag,
@@ -17,10 +20,19 @@ pub enum Fault {
     LeftOver,
 }
 
-#[derive(Clone, Copy)]
-pub enum Verdict {
-    Right,
-    Wrong(Fault),
+// The number of a fault.
+impl From<Fault> for u8 {
+    ghost from_gives = { λ f n. n ≡ fault f };
+
+    fn from(f: Fault) -> u8 {
+        match f {
+            Fault::CutShort => 33,
+            Fault::WrongTag => 34,
+            Fault::WrongLength => 35,
+            Fault::WrongValue => 36,
+            Fault::LeftOver => 37,
+        }
+    }
 }
 
 // A field that holds one number: its tag, its bytes, and its least and largest value.

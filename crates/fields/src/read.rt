@@ -5,13 +5,13 @@ ghost use Rattle.fields.specs.Fields.{number_at, cut, head_checks, value_checks}
 ghost use Rattle.fields.specs.Faults.{verdict};
 ghost use Rattle.fields.specs.Slots.{slot_checks};
 
-use crate::{Fault, Slot, Verdict};
+use crate::{Fault, Slot};
 
 // The byte at a place, and 0 past the end.
 pub fn byte_at(bytes: &[u8], at: usize) -> u8
     ensures { result ≡ get_or bytes.now at 0 }
 {
-    if at < bytes.len() { bytes[at] } else { 0 }
+    bytes.get(at).copied().unwrap_or(0)
 }
 
 // The number in the bytes from a place on, of which it has 8 at most.
@@ -22,74 +22,53 @@ pub fn value_at(bytes: &[u8], at: usize, width: u8) -> u64
     if bytes.len() <= at {
         return x;
     }
-    let count = at_most_8(width);
-    let mut i: usize = 0;
-    while i < count {
+    for i in 0..width.min(8) as usize {
         x = x * 256 + byte_at(bytes, at + i) as u64;
-        i += 1;
     }
     x
-}
-
-fn at_most_8(width: u8) -> usize
-    ensures { result ≡ min 8 width }
-{
-    if width < 8 { width as usize } else { 8 }
 }
 
 // Whether the head of a field, or the length that it states, runs past the end.
 fn is_cut(bytes: &[u8], at: usize) -> bool
     ensures { result ≡ cut bytes.now at }
 {
-    if bytes.len() < 3 {
-        return true;
-    }
-    if bytes.len() - 3 < at {
-        return true;
-    }
-    let stated = value_at(bytes, at + 1, 2) as usize;
-    if bytes.len() - 3 - at < stated {
-        return true;
-    }
-    false
+    bytes.len() < 3
+        || bytes.len() - 3 < at
+        || bytes.len() - 3 - at < value_at(bytes, at + 1, 2) as usize
 }
 
 // What is wrong with the head of a field: cut short, then another tag.
-pub fn head_fault(bytes: &[u8], at: usize, tag: u8) -> Verdict
+pub fn head_fault(bytes: &[u8], at: usize, tag: u8) -> Result<(), Fault>
     ensures { verdict result ≡ first_of (head_checks bytes.now at tag) }
 {
     if is_cut(bytes, at) {
-        return Verdict::Wrong(Fault::CutShort);
+        return Err(Fault::CutShort);
     }
-    if byte_at(bytes, at) == tag {
-        Verdict::Right
-    } else {
-        Verdict::Wrong(Fault::WrongTag)
+    if byte_at(bytes, at) != tag {
+        return Err(Fault::WrongTag);
     }
+    Ok(())
 }
 
 // What is wrong with the field of a slot: its head, then its length, then its value.
-pub fn slot_fault(bytes: &[u8], at: usize, slot: Slot) -> Verdict
+pub fn slot_fault(bytes: &[u8], at: usize, slot: Slot) -> Result<(), Fault>
     ensures { verdict result ≡ first_of (slot_checks bytes.now at slot) }
 {
-    let head = head_fault(bytes, at, slot.tag);
-    if let Verdict::Wrong(_) = head {
-        return head;
-    }
+    head_fault(bytes, at, slot.tag)?;
     let mismatch = value_at(bytes, at + 1, 2) != slot.width as u64;
     let x = value_at(bytes, at + 3, slot.width);
-    value_fault(mismatch, !((slot.least <= x) & (x <= slot.largest)))
+    value_fault(mismatch, !(slot.least..=slot.largest).contains(&x))
 }
 
 // What is wrong past the head, by whether the length is another and whether the value is outside its range.
-pub fn value_fault(mismatch: bool, outside: bool) -> Verdict
+pub fn value_fault(mismatch: bool, outside: bool) -> Result<(), Fault>
     ensures { verdict result ≡ first_of (value_checks mismatch outside) }
 {
     if mismatch {
-        return Verdict::Wrong(Fault::WrongLength);
+        return Err(Fault::WrongLength);
     }
     if outside {
-        return Verdict::Wrong(Fault::WrongValue);
+        return Err(Fault::WrongValue);
     }
-    Verdict::Right
+    Ok(())
 }

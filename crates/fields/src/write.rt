@@ -34,13 +34,7 @@ pub fn put_slot(out: &mut [u8], at: usize, slot: Slot, x: u64) -> bool
 fn has_room(len: usize, at: usize, n: usize) -> bool
     ensures { result ≡ leb (at + n) len }
 {
-    if len < n {
-        return false;
-    }
-    if len - n < at {
-        return false;
-    }
-    true
+    n <= len && at <= len - n
 }
 
 // Byte by byte from behind: a loop, as a compiler turns it into one store of the whole number where the width is known.
@@ -49,10 +43,8 @@ fn store(out: &mut [u8], at: usize, width: u8, x: u64)
     ensures { out.new ≡ sets out.old at (be width x) }
 {
     let mut left = x;
-    let mut i = width as usize;
-    while 0 < i {
-        i -= 1;
+    for i in (0..width as usize).rev() {
         out[at + i] = (left % 256) as u8;
-        left = left / 256;
+        left /= 256;
     }
 }

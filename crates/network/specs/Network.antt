@@ -1,5 +1,5 @@
 -- Planning of a network: what 01 says under "Planning" and at refusals 1, 2 and 3, sentence by sentence. Assumes nothing.
-use Rattle.std.specs.Prelude.{◌≡◌, Bool, false, not, cond, ◌&&◌, ◌||◌, List, [], ◌∷◌, ℕ, zero, suc, ◌+◌, ◌*◌, ◌/◌, ◌%◌, ◌^◌, ◌≤◌, ◌<◌, leb, eqb, get_or}
+use Rattle.std.specs.Prelude.{◌≡◌, Bool, false, not, cond, ◌&&◌, ◌||◌, List, [], ◌∷◌, ℕ, zero, suc, ◌+◌, ◌*◌, ◌/◌, ◌%◌, ◌^◌, ◌≤◌, ◌<◌, leb, eqb, get_or, Result, Ok, Err, codes}
 use Rattle.std.specs.Int.Count.{ones}
 use Rattle.lists.specs.Tests.{all_of, any_of, first_of}
 use Rattle.lists.specs.Searches.{some, largest, least}
@@ -8,8 +8,8 @@ use Rattle.network.specs.declared.Plan.{Plan}
 use Rattle.network.specs.declared.Faults.{Faults}
 use Rattle.network.specs.declared.Timing.{Timing}
 use Rattle.network.specs.declared.Bounds.{Bounds}
-use Rattle.network.specs.declared.Planned.{Planned}
-use Rattle.network.specs.declared.Planned.TheVariants.{Accepted, OutOfRange, BadLink, Parted}
+use Rattle.network.specs.declared.PlanRefusal.{PlanRefusal}
+use Rattle.network.specs.declared.PlanRefusal.TheVariants.{OutOfRange, BadLink, Parted}
 
 -- a plan's numbers by the paper's symbols, and its links
 abbrev pub n : Plan → ℕ
@@ -136,9 +136,19 @@ refused r = record { refusal = r; bounds = record { d = 0; first = record { boun
 abbrev pub planned : Plan → Said
 planned p = cond (eqb (plan_refusal p) 0) (record { refusal = 0; bounds = bounds p (worst p) }) (refused (plan_refusal p))
 
+-- the paper's number for each refusal
+abbrev pub number : PlanRefusal → ℕ
+number OutOfRange = 1
+number BadLink = 2
+number Parted = 3
+
+-- and its words
+abbrev pub words : PlanRefusal → List ℕ
+words OutOfRange = codes "plan number out of range"
+words BadLink = codes "plan link of no two hosts, or twice"
+words Parted = codes "plan parted by a fault set"
+
 -- the paper's number and values for each case of the answer
-abbrev pub says : Planned → Said
-says (Accepted b) = record { refusal = 0; bounds = b }
-says OutOfRange = refused 1
-says BadLink = refused 2
-says Parted = refused 3
+abbrev pub says : Result Bounds PlanRefusal → Said
+says (Ok b) = record { refusal = 0; bounds = b }
+says (Err r) = refused (number r)

@@ -10,7 +10,7 @@ mod sets;
 mod worst;
 
 pub use proper::is_proper;
-pub use reach::link_survives;
+pub use reach::{link_of, link_survives};
 pub use rules::{bound, window};
 pub use sets::is_in;
 
@@ -21,6 +21,9 @@ pub struct Link {
     pub a: u8,
     pub b: u8,
 }
+
+// What a place past the last holds.
+pub const NO_LINK: Link = Link { a: 0, b: 0 };
 
 // The network, and what it is planned to bear. Of the 12 places the first `link_count` hold links; planning does not look at the others.
 #[repr(C)]
@@ -58,9 +61,9 @@ pub struct Bounds {
     pub second: Timing,
 }
 
-#[derive(Clone, Copy)]
-pub enum Planned {
-    Accepted(Bounds),
+// Why a plan is refused, in the order of check.
+#[derive(Clone, Copy, Debug, PartialEq, Eq)]
+pub enum PlanRefusal {
     OutOfRange,
     BadLink,
     Parted,

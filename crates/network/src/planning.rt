@@ -1,27 +1,28 @@
 // What planning answers.
-ghost use Rattle.std.specs.Prelude.{◌≡◌};
-ghost use Rattle.network.specs.Network.{planned, says, timing};
+ghost use Rattle.std.specs.Prelude.{◌≡◌, Some};
+ghost use Rattle.network.specs.Network.{planned, says, number, words, timing};
 
 use crate::proper::{has_bad_link, in_range};
 use crate::rules::{bound, window};
 use crate::worst::worst_of;
-use crate::{Bounds, Plan, Planned, Timing};
+use crate::{Bounds, Plan, PlanRefusal, Timing};
+use std::fmt;
 
 // Refusal 1, 2 or 3 in that order, or d with each rule set's Δ and W; for every plan, whatever its bytes.
-pub fn plan(p: Plan) -> Planned
+pub fn plan(p: Plan) -> Result<Bounds, PlanRefusal>
     ensures { says result ≡ planned p }
 {
     if !in_range(p) {
-        return Planned::OutOfRange;
+        return Err(PlanRefusal::OutOfRange);
     }
     if has_bad_link(p) {
-        return Planned::BadLink;
+        return Err(PlanRefusal::BadLink);
     }
     let d = worst_of(p);
     if d >= p.hosts {
-        return Planned::Parted;
+        return Err(PlanRefusal::Parted);
     }
-    Planned::Accepted(Bounds {
+    Ok(Bounds {
         d,
         first: timing_of(1, p, d),
         second: timing_of(2, p, d),
@@ -34,5 +35,29 @@ fn timing_of(rules: u8, p: Plan, d: u8) -> Timing
     Timing {
         bound: bound(rules, p, d),
         window: window(rules, p, d),
+    }
+}
+
+impl From<PlanRefusal> for u8 {
+    ghost from_gives = { λ refusal r. r ≡ number refusal };
+
+    fn from(refusal: PlanRefusal) -> u8 {
+        match refusal {
+            PlanRefusal::OutOfRange => 1,
+            PlanRefusal::BadLink => 2,
+            PlanRefusal::Parted => 3,
+        }
+    }
+}
+
+impl fmt::Display for PlanRefusal {
+    ghost output = { λ refusal. Some (words refusal) };
+
+    fn fmt<W: fmt::Write>(&self, f: &mut fmt::Formatter<W>) -> fmt::Result {
+        match self {
+            PlanRefusal::OutOfRange => write!(f, "plan number out of range"),
+            PlanRefusal::BadLink => write!(f, "plan link of no two hosts, or twice"),
+            PlanRefusal::Parted => write!(f, "plan parted by a fault set"),
+        }
     }
 }

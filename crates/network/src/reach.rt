@@ -6,7 +6,7 @@ ghost use Rattle.network.specs.Inside.{Pairs, paired, alike, spreads, Spreads};
 
 use crate::pairs::ITSELF;
 use crate::sets::is_in;
-use crate::{Faults, Link, Plan};
+use crate::{Faults, Link, NO_LINK, Plan};
 
 // How many of k links are left over when the pairs within reach are all that are wanted; `near` are within reach already.
 pub(crate) fn reach(joined: u64, all: u64, near: u64, k: u8) -> u8
@@ -25,12 +25,10 @@ fn spread(joined: u64, near: u64) -> u64
     ensures { Pairs result (spreads joined (paired near)) }
 {
     let mut out = ITSELF;
-    let mut c: u32 = 0;
-    while c < 8 {
+    for c in 0..8u32 {
         let row = (near >> (8 * c)) % 256;
         let column = (joined >> c) & 0x0101_0101_0101_0101;
-        out = (row * column) | out;
-        c += 1;
+        out |= row * column;
     }
     out
 }
@@ -44,13 +42,9 @@ pub fn link_survives(p: Plan, f: Faults, i: u8) -> bool
     !is_in(f.links, i) & !is_in(f.hosts, l.a) & !is_in(f.hosts, l.b)
 }
 
-fn link_of(links: [Link; 12], i: u8) -> Link
+// The link at a place, and the zero link past the last.
+pub fn link_of(links: [Link; 12], i: u8) -> Link
     ensures { result ≡ get_or links i no_link }
 {
-    let at = i as usize;
-    if at < 12 {
-        links[at]
-    } else {
-        Link { a: 0, b: 0 }
-    }
+    links.get(i as usize).copied().unwrap_or(NO_LINK)
 }

@@ -6,7 +6,7 @@ ghost use Rattle.orders.specs.Orders.{kind_of, image_of, share_of, share_fits, s
 ghost use Rattle.orders.specs.Rules.{is_rules, hop_fits};
 
 // The first case with zeros is the blank order: its share is out of range, so no host holds it.
-#[derive(Clone, Copy)]
+#[derive(Clone, Copy, Debug, PartialEq, Eq)]
 pub enum Order {
     Publish { image: u32, share: u8 },
     Halt(u32),
@@ -14,11 +14,12 @@ pub enum Order {
     Withdraw(u32),
 }
 
+// A kind stays a number: it is the message's byte and C's, and `kind_of` and `order_of` say which.
 pub fn kind(order: Order) -> u8
     ensures { result ≡ kind_of order }
 {
     match order {
-        Order::Publish { image: _, share: _ } => 1,
+        Order::Publish { .. } => 1,
         Order::Halt(_) => 2,
         Order::Resume(_) => 3,
         Order::Withdraw(_) => 4,
@@ -29,10 +30,10 @@ pub fn image(order: Order) -> u32
     ensures { result ≡ image_of order }
 {
     match order {
-        Order::Publish { image, share: _ } => image,
-        Order::Halt(image) => image,
-        Order::Resume(image) => image,
-        Order::Withdraw(image) => image,
+        Order::Publish { image, .. }
+        | Order::Halt(image)
+        | Order::Resume(image)
+        | Order::Withdraw(image) => image,
     }
 }
 
@@ -41,10 +42,8 @@ pub fn share(order: Order) -> u8
     ensures { result ≡ share_of order }
 {
     match order {
-        Order::Publish { image: _, share } => share,
-        Order::Halt(_) => 0,
-        Order::Resume(_) => 0,
-        Order::Withdraw(_) => 0,
+        Order::Publish { share, .. } => share,
+        Order::Halt(_) | Order::Resume(_) | Order::Withdraw(_) => 0,
     }
 }
 
@@ -52,14 +51,14 @@ pub fn share(order: Order) -> u8
 pub fn share_fits(order: Order) -> bool
     ensures { result ≡ share_fits order }
 {
-    (kind(order) != 1) | is_share(share(order))
+    kind(order) != 1 || is_share(share(order))
 }
 
 // Whether two orders are the same one: kind, image and share.
 pub fn same(a: Order, b: Order) -> bool
     ensures { result ≡ same_order a b }
 {
-    (kind(a) == kind(b)) & (image(a) == image(b)) & (share(a) == share(b))
+    a == b
 }
 
 // The order of a kind; the blank order of a kind that there is not.
@@ -86,43 +85,43 @@ pub fn size(order: Order) -> usize
 pub fn wrong_size(kind: u8, bytes: usize) -> bool
     ensures { result ≡ wrong_size kind bytes }
 {
-    !((bytes == 5) | (bytes == 6)) | (is_kind(kind) & (bytes != size_of(kind)))
+    !matches!(bytes, 5 | 6) || is_kind(kind) && bytes != size_of(kind)
 }
 
 // Whether there is no such kind, or a publish has no such share.
 pub fn wrong_value(kind: u8, share: u8) -> bool
     ensures { result ≡ wrong_value kind share }
 {
-    !is_kind(kind) | ((kind == 1) & !is_share(share))
+    !is_kind(kind) || kind == 1 && !is_share(share)
 }
 
-// Whether there is such a rule set.
+// Whether there is such a rule set. It stays a number: a caller may name any, and 23 refuses what is neither.
 pub fn is_rules(rules: u8) -> bool
     ensures { result ≡ is_rules rules }
 {
-    (rules == 1) | (rules == 2)
+    matches!(rules, 1 | 2)
 }
 
 // Whether a copy can have this hop: 1..8 under the second rules, 0 under the first.
 pub fn hop_fits(rules: u8, hop: u8) -> bool
     ensures { result ≡ hop_fits rules hop }
 {
-    if rules == 2 {
-        return (1 <= hop) & (hop <= 8);
+    match rules {
+        2 => (1..=8).contains(&hop),
+        _ => hop == 0,
     }
-    hop == 0
 }
 
 fn is_kind(kind: u8) -> bool
     ensures { result ≡ is_kind kind }
 {
-    (1 <= kind) & (kind <= 4)
+    (1..=4).contains(&kind)
 }
 
 fn is_share(share: u8) -> bool
     ensures { result ≡ is_share share }
 {
-    (1 <= share) & (share <= 100)
+    (1..=100).contains(&share)
 }
 
 fn size_of(kind: u8) -> usize

@@ -1,13 +1,10 @@
 -- Each return has the tests that the definition asks. Assumes nothing.
 use native.Mathlib.Omega.{arith}
-use Rattle.clock.proofs.Sums.{showing_at, showing_below, showing_above}
+use Rattle.clock.proofs.Sums.{showing_at, showing_below}
 use Rattle.clock.proofs.tick_at.Goals as goal
 
-pub returns-then-reading-ahead : goal.returns-then-reading-ahead
-returns-then-reading-ahead c = showing_below _ _ (omega arith)
-
-pub returns-then-reading-gt-LARGEST_READING : goal.returns-then-reading-gt-LARGEST_READING
-returns-then-reading-gt-LARGEST_READING c = showing_above _ _ (omega arith) (omega arith)
+pub returns-in_err-checked_sub : goal.returns-in_err-checked_sub
+returns-in_err-checked_sub c = rw c.from_residual.ensures (showing_below _ _ (omega (arith, c.in_err-checked_sub.ensures)))
 
 pub returns : goal.returns
-returns c = showing_at _ _ (omega arith) (omega arith)
+returns c = simp (c.then_some.ensures, c.is_reading.ensures, c.in_ok-checked_sub.ensures.1, c.from.ensures) (showing_at _ _ (omega (arith, c.in_ok-checked_sub.ensures)))

@@ -2,7 +2,6 @@
 use mathlib.Core.Path.{sym, ap, ◌∙◌}
 use Rattle.orders.specs.Orders.{size_of}
 use Rattle.orders.proofs.Laws.{size_bytes}
-use borrow.Author.Rules.{rules}
 use Rattle.orders.proofs.size.Goals as goal
 
 pub returns : goal.returns

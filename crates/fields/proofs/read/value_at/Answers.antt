@@ -9,19 +9,19 @@ pub returns-then-bytes-at : goal.returns-then-bytes-at
 returns-then-bytes-at c = sym (val_past _ _ _ c.if-bytes-at.true)
 
 pub loop-i-init : goal.loop-i-init
-loop-i-init c = (omega arith, (sym (val_none _ _), omega arith))
+loop-i-init c = (sym (val_none _ _), omega arith)
 
 pub loop-i-preserved : goal.loop-i-preserved
 loop-i-preserved c =
     let l = c.loop-i in
-    (omega arith, (cc (l.invariant.1.0, c.byte_at.ensures, val_more _ _ l.i), digit_lt l.x c.byte_at.result l.i l.invariant.1.1 (omega arith)))
+    (cc (l.invariant.0, c.byte_at.ensures, val_more _ _ l.i), digit_lt l.x c.byte_at.result l.i l.invariant.1 (omega arith))
 
 pub overflow_mul-x : goal.overflow_mul-x
 overflow_mul-x c =
     let l = c.loop-i in
-    record { fits = omega (arith, digit_fits l.x 0 l.i (omega arith) l.invariant.1.1 (omega arith)) }
+    record { fits = omega (arith, digit_fits l.x 0 l.i (omega arith) l.invariant.1 (omega arith)) }
 
 pub overflow_add-x : goal.overflow_add-x
 overflow_add-x c =
     let l = c.loop-i in
-    record { fits = digit_fits l.x c.byte_at.result l.i (omega arith) l.invariant.1.1 (omega arith) }
+    record { fits = digit_fits l.x c.byte_at.result l.i (omega arith) l.invariant.1 (omega arith) }

@@ -1,11 +1,8 @@
 -- After i turns x is the number in the first i bytes, of which there are 8 at most; past the end all of them are 0. Assumes nothing.
 use mathlib.Core.Path.{◌≡◌}
-use Prim.Native.Nat.{◌≤◌, ◌<◌, ◌-◌, ◌^◌}
+use Prim.Native.Nat.{◌<◌, ◌^◌}
 use Rattle.lists.specs.Bytes.{val_at}
 use Rattle.fields.proofs.read.value_at.Given as goal
 
 abbrev pub invariant-loop-i : goal.invariant-loop-i
-invariant-loop-i l = (l.i ≤ l.count) × ((l.x ≡ val_at l.bytes l.at l.i) × (l.x < 256 ^ l.i))
-
-abbrev pub decreases-loop-i : goal.decreases-loop-i
-decreases-loop-i l = l.count - l.i
+invariant-loop-i l = (l.x ≡ val_at l.bytes l.at l.i) × (l.x < 256 ^ l.i)
