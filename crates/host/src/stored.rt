@@ -5,7 +5,7 @@ ghost use Rattle.host.specs.State.{fits, is_no_held, no_held};
 use crate::Held;
 use crate::unused::is_no_held;
 use clock::{Reading, is_stamp};
-use orders::{Order, share_fits};
+use orders::share_fits;
 
 pub trait Stored: Copy {
     ghost use Rattle.host.specs.declared.Held.{Held};
@@ -18,8 +18,8 @@ pub trait Stored: Copy {
     fn source(self) -> u8
         ensures { result ≡ (as_held self).source };
 
-    fn order(self) -> Order
-        ensures { result ≡ (as_held self).order };
+    fn held(self) -> Held
+        ensures { result ≡ as_held self };
 
     // Whether it may be held: its stamp, its source and its order are in range.
     fn is_fit(self, hosts: u8) -> bool
@@ -41,8 +41,8 @@ impl Stored for Held {
         self.source
     }
 
-    fn order(self) -> Order {
-        self.order
+    fn held(self) -> Held {
+        self
     }
 
     fn is_fit(self, hosts: u8) -> bool {

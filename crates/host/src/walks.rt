@@ -12,7 +12,6 @@ use crate::starts::newest;
 use crate::stored::Stored;
 use crate::{Frame, Held, Seen};
 use clock::{Reading, reached};
-use orders::same;
 
 // Whether a frame and a history are those of a sound state: one walk, which stops at the first order that fails. Stamps rise, so of the host's own
 // orders the last tells of all; the unused places are gathered into one number.
@@ -108,7 +107,7 @@ pub fn look<E: Stored>(entries: &[E], x: Held) -> Seen
     for e in entries {
         if (x.stamp.0 == e.stamp().0) & (x.source == e.source()) {
             seen.named = true;
-            if same(x.order, e.order()) {
+            if x.order == e.held().order {
                 seen.same = true;
             } else {
                 seen.other = true;

@@ -1,5 +1,5 @@
 -- Each turn tests the first of what is left, and what is left still decides. Behind those in use the unused places are gathered. Assumes nothing.
-use Rattle.std.proofs.Common.{rules, arith, sym, ap, ◌∙◌, take, drop, ◌≡◌}
+use Rattle.std.proofs.Common.{arith, sym, ap, ◌∙◌, take, drop, ◌≡◌}
 use borrow.Author.Tests.{lt-leb}
 use Rattle.std.proofs.lemmas.List.{take_min, drop_min}
 use Rattle.lists.proofs.Loops.{item_next}
