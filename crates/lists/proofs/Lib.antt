@@ -18,4 +18,5 @@ pub mod Order
 pub mod Listed
 pub mod Rises
 pub mod Leads
+pub mod Ranks
 pub mod ByteLaws
