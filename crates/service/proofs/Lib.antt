@@ -2,7 +2,6 @@
 mod Zeros
 mod Forms
 mod Converts
-mod Maps
 mod Shifts
 pub mod Back
 mod Ticks
