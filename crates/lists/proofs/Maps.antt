@@ -4,7 +4,6 @@ use mathlib.Core.Bool.{Bool, true, false, ◌&&◌, ◌||◌}
 use mathlib.Core.List.{List, [], ◌∷◌, ◌++◌, map}
 use Prim.Native.Nat.{ℕ, zero, suc, ◌-◌}
 use lib.ListN.{length, length-map, take, drop, set, replicate, take-append-drop}
-use Rattle.std.specs.List.{list_all}
 use Rattle.lists.specs.Lists.{all, any, rising, rising_from, insert, keep, pad}
 use Rattle.lists.proofs.Bools.{and_left_lem, and_right}
 use Rattle.lists.proofs.Listed.{all_member, member_all, all_append}
@@ -79,11 +78,6 @@ module _ {A B : Type 0} (f : A → B) where
   set_of_lem [] i x = refl
   set_of_lem (y ∷ l) zero x = refl
   set_of_lem (y ∷ l) (suc i) x = ap (λ (t : List B). f y ∷ t) (set_of_lem l i x)
-
--- a test of every element, as iterators say it
-pub listed_all : {A : Type 0} (p : A → Bool) (l : List A) → list_all p l ≡ all p l
-listed_all p [] = refl
-listed_all p (x ∷ l) = ap (λ (b : Bool). p x && b) (listed_all p l)
 
 -- a list comes back where each element that passes a test does
 pub map_there : {A B : Type 0} (f : A → B) (g : B → A) (p : A → Bool) → ((x : A) → p x ≡ true → g (f x) ≡ x) → (l : List A) → all p l ≡ true → map g (map f l) ≡ l

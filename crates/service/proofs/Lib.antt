@@ -1,7 +1,6 @@
 -- What the proofs of several functions use, and the laws for callers: Back, Through, One.
 mod Zeros
 mod Forms
-mod Converts
 mod Shifts
 pub mod Back
 mod Ticks
@@ -9,8 +8,6 @@ mod Standing
 mod Settled
 mod Prefixes
 mod Flats
-mod Gathers
-mod Owns
 mod Sounds
 mod Sizes
 pub mod Through

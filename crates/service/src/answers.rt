@@ -9,11 +9,9 @@ ghost use Rattle.host.specs.Tick.{tick_says};
 ghost use Rattle.service.specs.Memory.{host_from};
 
 use crate::HostMemory;
-use crate::changes::count_due;
 use crate::frames::frame_from;
-use crate::walks::{is_sound, look};
 use clock::Reading;
-use host::{Frame, Held, Refusal, Sent};
+use host::{Frame, Held, Refusal, Sent, is_sound_in};
 use orders::Order;
 
 pub(crate) fn start_answer(memory: &HostMemory, u: Reading, order: Order) -> Result<Sent, Refusal>
@@ -33,7 +31,7 @@ pub(crate) fn receive_answer(
     ensures { says result ≡ receive_says (host_from memory.now) u.0 link hop copy }
 {
     let frame = sound_frame(memory)?;
-    let seen = look(&memory.history[..memory.held], copy);
+    let seen = host::look(&memory.history[..memory.held], copy);
     host::receive_answer(frame, u, link, hop, copy, seen)
 }
 
@@ -42,7 +40,7 @@ pub(crate) fn tick_answer(memory: &HostMemory, u: Reading, room: usize) -> Resul
     ensures { says_tick result ≡ tick_says (host_from memory.now) u.0 room }
 {
     let frame = sound_frame(memory)?;
-    let count = count_due(&memory.history[..memory.held], memory.bound, u);
+    let count = host::due_in_front(&memory.history[..memory.held], memory.bound, u);
     host::tick_answer(frame, u, room, count)
 }
 
@@ -51,7 +49,7 @@ fn sound_frame(memory: &HostMemory) -> Result<Frame, Refusal>
     ensures { result ≡ cond (sound (host_from memory.now)) (Ok (frame_of (host_from memory.now))) (Err Unsound) }
 {
     let frame = frame_from(memory);
-    if is_sound(frame, &memory.history) {
+    if is_sound_in(frame, &memory.history) {
         Ok(frame)
     } else {
         Err(Refusal::Unsound)

@@ -1,10 +1,9 @@
 // The images of a board's flat memory: where one stands, and one made to stand otherwise, put in or taken out.
-ghost use Rattle.std.specs.Prelude.{◌≡◌, true, false, [], ◌∷◌, ◌++◌, map, ◌≤◌, ◌<◌, ◌+◌, take, drop};
+ghost use Rattle.std.specs.Prelude.{◌≡◌, true, false, ◌∷◌, ◌++◌, map, ◌≤◌, ◌<◌, ◌+◌, take, drop};
 ghost use Rattle.lists.specs.Lists.{rising};
 ghost use Rattle.board.specs.Board.{is_absent, stand_fits, before, stands, settle, unless_full, holding};
 ghost use Rattle.board.specs.Inside.{Sound, PlaceOf, Known};
 ghost use Rattle.service.specs.Memory.{place_from, board_from};
-ghost use Rattle.service.specs.Inside.{no_place};
 
 use crate::stands::{place_memory, stand_from};
 use crate::{BoardMemory, NO_PLACE, PlaceMemory};
@@ -68,7 +67,7 @@ fn take_out(memory: &mut BoardMemory, at: usize)
     ensures { board_from memory.new ≡ holding (take at (take memory.old.count (map place_from memory.old.places)) ++ drop (at + 1) (take memory.old.count (map place_from memory.old.places))) }
 {
     memory.count -= 1;
-    close(&mut memory.places, at);
+    lists::close_at(&mut memory.places, at, NO_PLACE);
 }
 
 // Those after it move up; the last place was unused.
@@ -78,7 +77,7 @@ fn put_in(memory: &mut BoardMemory, at: usize, p: PlaceMemory)
     ensures { board_from memory.new ≡ holding (take at (take memory.old.count (map place_from memory.old.places)) ++ (place_from p ∷ drop at (take memory.old.count (map place_from memory.old.places)))) }
 {
     memory.count += 1;
-    open(&mut memory.places, at, p);
+    lists::open_at(&mut memory.places, at, p);
 }
 
 fn replace(memory: &mut BoardMemory, at: usize, p: PlaceMemory)
@@ -87,20 +86,4 @@ fn replace(memory: &mut BoardMemory, at: usize, p: PlaceMemory)
     ensures { board_from memory.new ≡ holding (take at (take memory.old.count (map place_from memory.old.places)) ++ (place_from p ∷ drop (at + 1) (take memory.old.count (map place_from memory.old.places)))) }
 {
     memory.places[at] = p;
-}
-
-fn close(places: &mut [PlaceMemory; 16], at: usize)
-    requires { at < 16 }
-    ensures { places.new ≡ take at places.old ++ drop (at + 1) places.old ++ (no_place ∷ []) }
-{
-    places.copy_within(at + 1.., at);
-    places[15] = NO_PLACE;
-}
-
-fn open(places: &mut [PlaceMemory; 16], at: usize, p: PlaceMemory)
-    requires { at < 16 }
-    ensures { places.new ≡ take 16 (take at places.old ++ (p ∷ drop at places.old)) }
-{
-    places.copy_within(at..15, at + 1);
-    places[at] = p;
 }

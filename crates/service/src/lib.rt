@@ -13,9 +13,8 @@ mod memory;
 pub mod messages;
 mod numbers;
 mod orders_in;
-mod places;
 mod stands;
-mod walks;
+mod stored;
 
 use clock::Reading;
 use network::{Plan, Timing};

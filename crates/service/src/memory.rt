@@ -61,14 +61,16 @@ impl From<Host> for HostMemory {
     ghost from_gives = { λ host memory. memory ≡ host_memory host };
 
     fn from(host: Host) -> HostMemory {
+        let starts = host.starts;
+        let history = host.history.map(|x| HeldMemory::from(x));
         HostMemory {
             bound: host.bound,
             last: host.last,
             own: u64::from(host.own),
             started: host.started,
             held: host.held,
-            starts: host.starts,
-            history: host.history.map(|x| HeldMemory::from(x)),
+            starts,
+            history,
             plan: host.plan,
             rules: host.rules,
             d: host.d,

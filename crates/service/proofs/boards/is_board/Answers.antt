@@ -3,12 +3,13 @@ use borrow.Author.Rules.{rules}
 use borrow.Author.Tests.{tests, lt-leb}
 use native.Mathlib.Omega.{arith}
 use mathlib.Core.Path.{◌≡◌, refl, sym, ap, ◌∙◌}
-use mathlib.Core.Bool.{Bool, true, false}
+use mathlib.Core.Bool.{Bool, true, false, ◌&&◌}
 use mathlib.Core.List.{List, [], ◌∷◌}
 use Prim.Native.Nat.{◌-◌}
 use lib.Dec.{leb}
 use lib.ListN.{length, length-drop, take, drop}
 use lib.Seq.{length-take-le, get_or-take, take_all}
+use Rattle.std.specs.List.{list_all}
 use Rattle.std.proofs.lemmas.Iterator.{YieldsList-from_slice}
 use Rattle.std.proofs.lemmas.Iterator.Search.{all_from_yields_List}
 use Rattle.lists.specs.Lists.{all, rising}
@@ -20,7 +21,6 @@ use Rattle.service.specs.declared.BoardMemory.{BoardMemory}
 use Rattle.service.specs.declared.PlaceMemory.{PlaceMemory}
 use Rattle.service.specs.Memory.{board_from}
 use Rattle.service.specs.Inside.{place_fits_in, in_front, blank_in, no_place}
-use Rattle.service.proofs.Maps.{listed_all}
 use Rattle.service.proofs.Settled.{sound_in}
 use Rattle.service.proofs.boards.is_board.Goals as goal
 
@@ -54,6 +54,11 @@ loop-i-preserved c =
     let is = get_or-take f.count f.places c.loop-i.i no_place (omega arith) in
     let fit = rw is at c.is_fit.ensures in
     rw is (walk_turn no_place c.loop-i.invariant (omega arith) (omega arith) fit c.if-not-is_fit.false-raw refl (rw is at c.if-not-i-last.false-raw) fit c.if-not-is_fit.false-raw)
+
+-- what an iterator says of all places
+listed_all : {A : Type 0} (p : A → Bool) (l : List A) → list_all p l ≡ all p l
+listed_all p [] = refl
+listed_all p (x ∷ l) = ap (λ (b : Bool). p x && b) (listed_all p l)
 
 -- where all else passes, the unused places decide
 rest : (f : BoardMemory) (b : Bool) → b ≡ all blank_in (drop f.count f.places) → (true ≡ all blank_in (drop f.count f.places) → all_of (leb f.count 16 ∷ all place_fits_in (take f.count f.places) ∷ rising in_front (take f.count f.places) ∷ all blank_in (drop f.count f.places) ∷ []) ≡ true) → b ≡ sound (board_from f)
