@@ -8,6 +8,8 @@ mod writers;
 ghost use Rattle.std.specs.Prelude.{◌≡◌};
 ghost use Rattle.report.specs.Calls.{reported, says, told, left};
 
+use crate::writers::Writer;
+
 #[derive(Clone, Copy)]
 pub enum Told {
     Written(usize), // so many bytes
@@ -20,14 +22,13 @@ pub fn report(bytes: &[u8], out: &mut [u8]) -> Told
         × (out.new ≡ left (reported bytes.now) out.old) }
 {
     let ran = engine::run(bytes);
-    let answer = ran.answer;
-    let outcome = ran.outcome;
     // Nothing may be written before the length is known.
-    let mut nowhere = [0u8; 1];
-    let n = lines::text(&mut nowhere, answer, outcome);
+    let mut nowhere = Writer::new(&mut []);
+    lines::text(&mut nowhere, ran.answer, &ran.outcome);
+    let n = nowhere.at;
     if out.len() < n {
         return Told::ShortBuffer;
     }
-    lines::text(out, answer, outcome);
+    lines::text(&mut Writer::new(out), ran.answer, &ran.outcome);
     Told::Written(n)
 }

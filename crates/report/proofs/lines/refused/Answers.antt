@@ -1,21 +1,22 @@
--- Its parts, one after the other. Assumes nothing.
-use native.Mathlib.Omega.{arith}
+-- Its parts, one after the other; the test is the definition's. Assumes nothing.
+use mathlib.Core.Bool.{cond}
+use mathlib.Core.List.{List, []}
+use Prim.Native.Nat.{ℕ}
+use borrow.Author.Tests.{eq-eqb, ne_eqb}
 use lib.Dec.{eqb}
 use Rattle.report.specs.Text.{item, refused_text}
-use Rattle.report.proofs.Sizes.{length_digits, index_size}
-use Rattle.report.proofs.Writing.{wrote_then}
+use Rattle.report.specs.Inside.{Wrote}
+use Rattle.report.proofs.Writing.{wrote_then, wrote_none}
 use Rattle.report.proofs.lines.refused.Goals as goal
-
-pub index_item-told-requires : goal.index_item-told-requires
-index_item-told-requires c =
-    omega (arith, c.item-named.ensures.end, length_digits 20 c.args.number)
-
-pub put-requires : goal.put-requires
-put-requires c =
-    let a = c.args in
-    omega (arith, c.item-named.ensures.end, c.index_item-told.ensures.end, length_digits 20 a.number, index_size (eqb a.number 32) a.index)
+use Rattle.report.proofs.lines.refused.Goals.{then-number-eq32, else-number-eq32}
 
 pub returns : goal.returns
 unfolding item refused_text
 returns c =
-    wrote_then (wrote_then c.item-named.ensures c.index_item-told.ensures) c.put.ensures
+    let n = c.args.number in
+    let index : List ℕ = cond (eqb n 32) (item " " c.args.index) [] in
+    let told : Wrote c.item.new.self index c.if-number-eq32.w = elim c.if-number-eq32.branch [
+      | then-number-eq32 x ↦ rw (x.w-is, eq-eqb n 32 x.if-number-eq32.true) x.item-then-number-eq32.ensures
+      | else-number-eq32 x ↦ rw (x.w-is, ne_eqb n 32 x.if-number-eq32.false) (wrote_none _)
+    ] in
+    wrote_then (wrote_then c.item.ensures told) c.put.ensures
