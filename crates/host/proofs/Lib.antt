@@ -5,6 +5,7 @@ pub mod Blanks
 pub mod Slides
 pub mod Inserts
 pub mod Facts
+pub mod Lists
 pub mod Answered
 pub mod Writes
 pub mod Fresh

@@ -12,26 +12,20 @@ use clock::{Reading, is_stamp, reached};
 use orders::{same, share_fits};
 
 // Whether the order's name is held: for the same order, for another, for any.
-pub(crate) fn look(history: [Held; 32], held: usize, x: Held) -> Seen
-    requires { held ≤ 32 }
-    ensures same_value { result.same ≡ any (same_held x) (take held history) }
-    ensures other_value { result.other ≡ any (other_held x) (take held history) }
-    ensures named_value { result.named ≡ any (same_name x) (take held history) }
+pub(crate) fn look(history: &[Held], x: Held) -> Seen
+    ensures same_value { result.same ≡ any (same_held x) history.now }
+    ensures other_value { result.other ≡ any (other_held x) history.now }
+    ensures named_value { result.named ≡ any (same_name x) history.now }
 {
-    let order = x.order;
     let mut known = false;
     let mut other = false;
     let mut named = false;
-    let mut i = 0;
-    while i < held {
-        let e = history[i];
-        let theirs = e.order;
-        let here = has_name(x, e);
-        let alike = same(order, theirs);
+    for e in history {
+        let here = has_name(x, *e);
+        let alike = same(x.order, e.order);
         known = known | (here & alike);
         other = other | (here & !alike);
         named = named | here;
-        i += 1;
     }
     Seen {
         same: known,
@@ -61,41 +55,32 @@ fn is_before(x: Held, e: Held) -> bool
 
 // Whether a history is sound: of those held, at most 32, each in range, rising, and the host's own started; and the unused places zero.
 pub(crate) fn is_history(
-    history: [Held; 32],
+    history: &[Held; 32],
     held: usize,
     hosts: u8,
     own: u8,
     started: usize,
     newest: Reading,
 ) -> bool
-    ensures { result ≡ all_of (leb held 32 ∷ all (fits hosts) (take held history) ∷ rising before (take held history) ∷ all (own_started own started newest.0) (take held history) ∷ all is_no_held (drop held history) ∷ []) }
+    ensures { result ≡ all_of (leb held 32 ∷ all (fits hosts) (take held history.now) ∷ rising before (take held history.now) ∷ all (own_started own started newest.0) (take held history.now) ∷ all is_no_held (drop held history.now) ∷ []) }
 {
     if held > 32 {
         return false;
     }
     let mut previous = history[0];
-    let mut i = 0;
-    while i < held {
-        let e = history[i];
-        if !is_fit(e, hosts) {
+    for (i, e) in history[..held].iter().enumerate() {
+        if !is_fit(*e, hosts) {
             return false;
         }
-        if !((i == 0) | is_before(previous, e)) {
+        if !((i == 0) | is_before(previous, *e)) {
             return false;
         }
-        if !is_started(e, own, started, newest) {
+        if !is_started(*e, own, started, newest) {
             return false;
         }
-        previous = e;
-        i += 1;
+        previous = *e;
     }
-    while i < 32 {
-        if !is_no_held(history[i]) {
-            return false;
-        }
-        i += 1;
-    }
-    true
+    history[held..].iter().all(|e| is_no_held(*e))
 }
 
 fn is_fit(e: Held, hosts: u8) -> bool

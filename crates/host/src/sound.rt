@@ -13,7 +13,6 @@ use orders::is_rules;
 pub fn is_sound(host: Host) -> bool
     ensures { result ≡ sound host }
 {
-    let held = host.held;
     let frame = frame_of(host);
     if !is_framed(frame) {
         return false;
@@ -21,10 +20,14 @@ pub fn is_sound(host: Host) -> bool
     let plan = host.plan;
     let starts = host.starts;
     let started = host.started;
-    let history = host.history;
     let last_start = newest(starts, started);
     is_history(
-        history, host.held, plan.hosts, host.own, started, last_start,
+        &host.history,
+        host.held,
+        plan.hosts,
+        host.own,
+        started,
+        last_start,
     )
 }
 

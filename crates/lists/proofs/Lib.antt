@@ -14,4 +14,5 @@ pub mod Listing
 pub mod Order
 pub mod Listed
 pub mod Rises
+pub mod Ranks
 pub mod ByteLaws
