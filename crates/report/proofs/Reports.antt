@@ -4,12 +4,16 @@ use mathlib.Core.Bool.{Bool, true, false, cond}
 use mathlib.Core.List.{List, [], ◌++◌}
 use Prim.Native.Nat.{ℕ, ◌≤◌, ◌<◌}
 use native.Mathlib.Omega.{arith}
-use borrow.Author.Tests.{eq-eqb, ne_eqb, ltb-true, ltb-false}
+use borrow.Author.Tests.{ltb-true, ltb-false}
 use lib.Dec.{eqb}
 use lib.ListN.{length, drop}
 use Rattle.std.specs.Borrow.{MutBor}
 use Rattle.fields.proofs.Placing.{placed_sets, placed_front}
-use Rattle.schedule.specs.Calls.{answered}
+use Rattle.network.specs.declared.PlanRefusal.TheVariants.{OutOfRange, BadLink, Parted}
+use Rattle.schedule.specs.declared.Refusal.{Refusal}
+use Rattle.schedule.specs.declared.Refusal.TheVariants.{NotASchedule, Plan, OutsideRules}
+use Rattle.schedule.specs.Calls.{answered, numbers}
+use Rattle.engine.proofs.Runs.{some_number}
 use Rattle.engine.specs.Calls.{outcome_of}
 use Rattle.engine.specs.declared.Outcome.{Outcome}
 use Rattle.report.specs.Text.{item, text, outcome_text, refused_text}
@@ -17,20 +21,24 @@ use Rattle.report.specs.Calls.{reported, too_short, told, left, enough}
 use Rattle.report.specs.declared.writers.Writer.{Writer}
 use Rattle.report.specs.Inside.{last, Counts, Starts, Wrote}
 
-pub text_run : (a : ℕ × ℕ) (o : Outcome) → a.0 ≡ 0 → outcome_text o ≡ text a o
+pub text_run : (o : Outcome) → outcome_text o ≡ text (0, 0) o
 unfolding text
-text_run a o e = rw (eq-eqb a.0 0 e)
+text_run o = refl
 
-pub text_refused : (a : ℕ × ℕ) (o : Outcome) (n i : ℕ) → n ≡ a.0 → i ≡ a.1 → (n ≡ 0 → ⊥) → refused_text (n, i) ≡ text a o
+pub text_refused : (r : Refusal) (o : Outcome) → refused_text (numbers r) ≡ text (numbers r) o
 unfolding text
-text_refused a o n i p q h = rw (p, q, ne_eqb a.0 0 (λ e. h (p ∙ e)))
+text_refused r o = rw (some_number r)
 
--- "with the index after 32"
-pub index_there : (n i : ℕ) → n ≡ 32 → item " " i ≡ cond (eqb n 32) (item " " i) []
-index_there n i e = rw (eq-eqb n 32 e)
+-- "with the index after 32", and none after any other number
+abbrev pub index_text : Refusal → List ℕ
+index_text r = cond (eqb (numbers r).0 32) (item " " (numbers r).1) []
 
-pub index_none : (n i : ℕ) → (n ≡ 32 → ⊥) → [] ≡ cond (eqb n 32) (item " " i) []
-index_none n i h = rw (ne_eqb n 32 h)
+pub no_index : (r : Refusal) → ((k : ℕ) → r ≡ OutsideRules k → ⊥) → [] ≡ index_text r
+no_index NotASchedule h = refl
+no_index (Plan OutOfRange) h = refl
+no_index (Plan BadLink) h = refl
+no_index (Plan Parted) h = refl
+no_index (OutsideRules k) h = absurd (h k refl)
 
 -- the text of what a run answers is the report of its bytes
 pub text_reported : (bs : List ℕ) (a : ℕ × ℕ) (o : Outcome) → a ≡ answered bs → o ≡ outcome_of bs → text a o ≡ reported bs

@@ -1,6 +1,7 @@
 // The lines of the report.
 ghost use Rattle.std.specs.Prelude.{◌≡◌};
-ghost use Rattle.schedule.specs.Calls.{says};
+ghost use Rattle.schedule.specs.Calls.{numbers};
+ghost use Rattle.engine.specs.Calls.{says, outcome_in};
 ghost use Rattle.engine.specs.Inside.{InPlaces};
 ghost use Rattle.report.specs.Text.{order_text, held_text, delivery_line, start_line, outcome_text, refused_text};
 ghost use Rattle.report.specs.Text.{text as text_of};
@@ -11,26 +12,25 @@ use crate::writers::Writer;
 use engine::{Delivery, Outcome};
 use host::Held;
 use orders::Order;
-use schedule::{Answer, index_of, number_of};
+use schedule::{Refusal, number_of};
 
 // The line of a refused file, or all lines of a run.
-pub(crate) fn text(w: &mut Writer<'_>, answer: Answer, outcome: &Outcome)
-    requires { InPlaces outcome.now }
-    ensures { Wrote w.old (text_of (says answer) outcome.now) w.new }
+pub(crate) fn text(w: &mut Writer<'_>, ran: &Result<Outcome, Refusal>)
+    requires { InPlaces (outcome_in ran.now) }
+    ensures { Wrote w.old (text_of (says ran.now) (outcome_in ran.now)) w.new }
 {
-    let number = number_of(answer);
-    if number == 0 {
-        return whole(w, outcome);
+    match ran {
+        Ok(outcome) => whole(w, outcome),
+        Err(refusal) => refused(w, *refusal),
     }
-    refused(w, number, index_of(answer));
 }
 
-// The index after 32, and nothing after any other number.
-fn refused(w: &mut Writer<'_>, number: u8, index: usize)
-    ensures { Wrote w.old (refused_text (number, index)) w.new }
+// With the index of a record outside the rules.
+fn refused(w: &mut Writer<'_>, refusal: Refusal)
+    ensures { Wrote w.old (refused_text (numbers refusal)) w.new }
 {
-    w.item(b"refused ", number as u64);
-    if number == 32 {
+    w.item(b"refused ", number_of(refusal) as u64);
+    if let Refusal::OutsideRules(index) = refusal {
         w.item(b" ", index as u64);
     }
     w.put(b'\n');

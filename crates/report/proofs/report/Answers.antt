@@ -12,13 +12,14 @@ pub returns-then-out-n : goal.returns-then-out-n
 returns-then-out-n c =
     let ran = c.run-ran.ensures in
     let bs = c.args.bytes.now in
-    let same = text_reported bs _ _ ran.0 ran.1 in
-    too_short_lem same (text_size (answered bs) (outcome_of bs) (outcome_in_places bs)) c.new-nowhere.ensures (omega arith) c.text.ensures c.args.out.now c.if-out-n.true
+    let same = text_reported bs _ _ ran.numbers ran.outcome in
+    let e = too_short_lem same (text_size (answered bs) (outcome_of bs) (outcome_in_places bs)) c.new-nowhere.ensures (omega arith) c.text.ensures c.args.out.now c.if-out-n.true in
+    record { numbers = e.0; buffer = e.1 }
 
 pub returns : goal.returns
 returns c =
     let ran = c.run-ran.ensures in
     let bs = c.args.bytes.now in
-    let same = text_reported bs _ _ ran.0 ran.1 in
+    let same = text_reported bs _ _ ran.numbers ran.outcome in
     let e = fits same (text_size (answered bs) (outcome_of bs) (outcome_in_places bs)) c.new-nowhere.ensures (omega arith) c.text.ensures c.new.ensures (omega arith) c.text-2.ensures c.if-out-n.false in
-    (e.0, search rules)
+    record { numbers = e.0; buffer = search rules }

@@ -1,22 +1,19 @@
--- Its parts, one after the other; the test is the definition's. Assumes nothing.
-use mathlib.Core.Bool.{cond}
-use mathlib.Core.List.{List, []}
-use Prim.Native.Nat.{ℕ}
-use borrow.Author.Tests.{eq-eqb, ne_eqb}
-use lib.Dec.{eqb}
+-- Its parts, one after the other; the index stands after 32 alone. Assumes nothing.
+use mathlib.Core.Path.{ap}
 use Rattle.report.specs.Text.{item, refused_text}
 use Rattle.report.specs.Inside.{Wrote}
-use Rattle.report.proofs.Writing.{wrote_then, wrote_none}
+use Rattle.report.proofs.Writing.{wrote_then, wrote_none, wrote_as}
+use Rattle.report.proofs.Reports.{index_text, no_index}
 use Rattle.report.proofs.lines.refused.Goals as goal
-use Rattle.report.proofs.lines.refused.Goals.{then-number-eq32, else-number-eq32}
+use Rattle.report.proofs.lines.refused.Goals.{in-OutsideRules, in_default}
 
 pub returns : goal.returns
 unfolding item refused_text
 returns c =
-    let n = c.args.number in
-    let index : List ℕ = cond (eqb n 32) (item " " c.args.index) [] in
-    let told : Wrote c.item.new.self index c.if-number-eq32.w = elim c.if-number-eq32.branch [
-      | then-number-eq32 x ↦ rw (x.w-is, eq-eqb n 32 x.if-number-eq32.true) x.item-then-number-eq32.ensures
-      | else-number-eq32 x ↦ rw (x.w-is, ne_eqb n 32 x.if-number-eq32.false) (wrote_none _)
+    let r = c.args.refusal in
+    let named = wrote_as (ap (item "refused ") c.number_of.ensures) c.item.ensures in
+    let told : Wrote c.item.new.self (index_text r) c.match-refusal.w = elim c.match-refusal.branch [
+      | in-OutsideRules x ↦ rw (x.in-OutsideRules.is, x.w-is) x.item-in-OutsideRules.ensures
+      | in_default x ↦ rw x.w-is (wrote_as (no_index r x.in_default.not-OutsideRules) (wrote_none _))
     ] in
-    wrote_then (wrote_then c.item.ensures told) c.put.ensures
+    wrote_then (wrote_then named told) c.put.ensures
