@@ -74,12 +74,7 @@ impl Terms {
     fn offsets_out(self, here: Record) -> bool
         ensures { result ≡ offsets_out self.plan here.entry.bytes.now (here.entry.at + 3) }
     {
-        for i in 0..self.plan.hosts {
-            if here.byte(i) >= self.plan.skew {
-                return true;
-            }
-        }
-        false
+        (0..self.plan.hosts).any(|i| here.byte(i) >= self.plan.skew)
     }
 
     // A start past the end, or before the start that it follows.

@@ -1,16 +1,19 @@
--- No offset before i is ε or more. Assumes nothing.
-use mathlib.Core.Path.{sym}
+-- The test of each number in turn. Assumes nothing.
 use Prim.Native.Nat.{◌+◌}
-use borrow.Author.Tests.{le-leb, lt-leb}
-use Rattle.lists.proofs.SearchLaws.{some_start, some_again, some_true}
-use Rattle.schedule.proofs.rules.Terms.offsets_out.Invariants.{far}
+use borrow.Author.Tests.{tests}
+use lib.Dec.{leb}
+use lib.ListN.{get_or}
+use Rattle.std.proofs.Common.{rules}
+use Rattle.std.proofs.lemmas.Iterator.{YieldsList-from_range}
+use Rattle.std.proofs.lemmas.Iterator.Search.{any_from_yields_List}
+use mathlib.Core.Path.{refl, ◌∙◌}
+use native.Mathlib.Omega.{arith}
+use Rattle.network.specs.Network.{ε}
+use Rattle.schedule.proofs.Ranges.{any_below}
 use Rattle.schedule.proofs.rules.Terms.offsets_out.Goals as goal
 
-pub loop-i-init : goal.loop-i-init
-loop-i-init c = sym (some_start _)
-
-pub returns-then-byte-self : goal.returns-then-byte-self
-returns-then-byte-self c = let a = c.args in sym (some_true (far a.self.plan a.here.bytes.now (a.here.at + 3)) _ c.loop-i.i c.loop-i-test.true (le-leb _ _ (rw c.byte.ensures at c.if-byte-self.true)))
-
-pub loop-i-preserved : goal.loop-i-preserved
-loop-i-preserved c = let a = c.args in sym (some_again (far a.self.plan a.here.bytes.now (a.here.at + 3)) c.loop-i.i (lt-leb _ _ (rw c.byte.ensures at c.if-byte-self.false)) (sym c.loop-i.invariant))
+pub returns : goal.returns
+returns c =
+    let p = c.args.self.plan in
+    let h = c.args.here in
+    any_from_yields_List (λ i. leb (ε p) (get_or h.bytes.now (h.at + 3 + i) 0)) _ _ _ c.any.ensures.ran (YieldsList-from_range 0 p.hosts p.hosts refl (omega arith)) (λ x b q k. search (rules, tests)) ∙ any_below _ p.hosts
