@@ -1,6 +1,6 @@
 // The schedule that stands in the records.
-ghost use Rattle.std.specs.Prelude.{◌≡◌, true, ◌+◌, ◌≤◌, ◌<◌};
-ghost use Rattle.schedule.specs.Shape.{is_schedule, place};
+ghost use Rattle.std.specs.Prelude.{◌≡◌, ◌+◌, ◌≤◌, ◌<◌};
+ghost use Rattle.schedule.specs.Shape.{place};
 ghost use Rattle.schedule.specs.Schedule.{link_at, links_of, plan_of, faults_at, offsets_at, schedule_of};
 ghost use Rattle.schedule.specs.Inside.{Judged};
 
@@ -13,7 +13,9 @@ use network::{Bounds, Faults, Link, NO_LINK, Plan};
 #[derive(Clone, Copy)]
 pub(crate) struct Records<'a> {
     pub tally: Tally<'a>,
-    ghost shape: { is_schedule tally.bytes.now ≡ true },
+    ghost few_links: { tally.links ≤ 12 },
+    ghost few_starts: { tally.starts ≤ 16 },
+    ghost enough: { tally.links + tally.starts + 4 ≤ tally.count },
 }
 
 impl<'a> Records<'a> {

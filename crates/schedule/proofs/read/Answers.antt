@@ -5,6 +5,7 @@ use Rattle.std.proofs.lemmas.Result.{err_from_is_err_and}
 use Rattle.network.specs.Network.{says, plan_refusal}
 use Rattle.network.proofs.Answers.{fine}
 use Rattle.network.proofs.Ranges.{ranges}
+use Rattle.schedule.proofs.Tallies.{shape}
 use Rattle.schedule.proofs.Verdicts.{too_long, right_misshapen, unplanned, right_unplanned, judged, first_is, right_outside, right_accepted}
 use Rattle.schedule.proofs.read.Goals as goal
 
@@ -13,6 +14,12 @@ returns-then-bytes-gt-LONGEST c = let bs = c.args.bytes.now in let r = right_mis
 
 pub returns-then-not-is_schedule : goal.returns-then-not-is_schedule
 returns-then-not-is_schedule c = let r = rw c.of-tally.ensures at (right_misshapen _ (sym c.is_schedule.ensures ∙ c.if-not-is_schedule.true)) in record { numbers = r.0; schedule = r.1 }
+
+pub invariant_of-records : goal.invariant_of-records
+invariant_of-records c =
+    let t = c.of-tally.result in
+    let h = shape t.bytes.now (sym c.is_schedule.ensures ∙ c.if-not-is_schedule.false) in
+    record { few_links = omega (arith, h.few_links, t.links_are); few_starts = omega (arith, h.few_starts, t.starts_are); enough = omega (arith, h.enough, t.count_is, t.links_are, t.starts_are) }
 
 pub returns-in_err-bounds : goal.returns-in_err-bounds
 returns-in_err-bounds c =

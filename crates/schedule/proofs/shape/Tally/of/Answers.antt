@@ -20,5 +20,6 @@ loop-end-preserved c = let s = c.loop-end in rw (c.from-links.ensures ∙ one_if
 pub invariant_of-result : goal.invariant_of-result
 invariant_of-result c =
     let s = c.loop-end in
+    let f = partly_few c.args.bytes.now s.count s.links s.starts s.end s.invariant in
     let e = partly_end c.args.bytes.now s.count s.links s.starts s.end s.invariant c.loop-end-test.false in
-    record { short = c.requires; count_is = e.count_is; links_are = e.links_are; starts_are = e.starts_are; end_is = e.end_is }
+    record { short = c.requires; few = omega (arith, s.invariant.few, c.requires); few_links = f.0; few_starts = f.1; count_is = e.count_is; links_are = e.links_are; starts_are = e.starts_are; end_is = e.end_is }

@@ -8,7 +8,6 @@ use Rattle.lists.proofs.Listing.{table_start, table_next}
 use Rattle.schedule.specs.Shape.{place, value}
 use Rattle.schedule.specs.Schedule.{copy_at, delays_of, first_fate}
 use Rattle.schedule.proofs.Walks.{place_past, place_low, past_head}
-use Rattle.schedule.proofs.Tallies.{shape}
 use Rattle.schedule.proofs.taking.Records.delays.Goals as goal
 
 abbrev copies : List ℕ → ℕ → ℕ
@@ -16,18 +15,6 @@ copies bs i = copy_at bs (value bs (first_fate bs + i))
 
 abbrev waits : List ℕ → ℕ → ℕ
 waits bs i = get_or bs (place bs (first_fate bs + i) + 6) 0
-
-pub overflow_add-first : goal.overflow_add-first
-overflow_add-first c = let t = c.args.self.tally in let h = shape t.bytes.now c.args.self.shape in omega (arith, t.links_are, t.starts_are, h.few_links, h.few_starts)
-
-pub overflow_add-first-2 : goal.overflow_add-first-2
-overflow_add-first-2 c = let t = c.args.self.tally in let h = shape t.bytes.now c.args.self.shape in omega (arith, t.links_are, t.starts_are, h.few_links, h.few_starts)
-
-pub record-requires : goal.record-requires
-record-requires c = let t = c.args.self.tally in omega (arith, t.count_is, t.links_are, t.starts_are, (shape t.bytes.now c.args.self.shape).enough)
-
-pub overflow_sub-end : goal.overflow_sub-end
-overflow_sub-end c = let t = c.args.self.tally in omega (arith, t.count_is, t.links_are, t.starts_are, (shape t.bytes.now c.args.self.shape).enough)
 
 pub loop-init : goal.loop-init
 loop-init c =

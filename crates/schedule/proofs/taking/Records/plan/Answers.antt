@@ -1,15 +1,7 @@
 -- Byte by byte, and the links. Assumes nothing.
-use native.Mathlib.Omega.{arith}
 use Rattle.schedule.specs.Schedule.{plan_of}
 use Rattle.schedule.proofs.Walks.{place_start}
-use Rattle.schedule.proofs.Tallies.{shape}
 use Rattle.schedule.proofs.taking.Records.plan.Goals as goal
-
-pub record-plan-requires : goal.record-plan-requires
-record-plan-requires c = let t = c.args.self.tally in omega (arith, t.count_is, (shape t.bytes.now c.args.self.shape).enough)
-
-pub overflow_cast-result : goal.overflow_cast-result
-overflow_cast-result c = let t = c.args.self.tally in omega (arith, t.links_are, (shape t.bytes.now c.args.self.shape).few_links)
 
 pub returns : goal.returns
 unfolding plan_of
