@@ -3,23 +3,28 @@ use mathlib.Core.Path.{◌≡◌, refl, ap₂}
 use mathlib.Core.Bool.{Bool, cond}
 use Prim.Native.Nat.{ℕ}
 use lib.Dec.{eqb}
+use Rattle.std.specs.declared.result.Result.{Result}
+use Rattle.std.specs.declared.result.Result.TheVariants.{Ok, Err}
 use Rattle.lists.proofs.One.{one_result, one_call}
 use Rattle.orders.specs.declared.Order.{Order}
 use Rattle.board.specs.declared.Stand.{Stand}
 use Rattle.board.specs.declared.Board.{Board}
-use Rattle.board.specs.declared.Answer.{Answer}
-use Rattle.board.specs.declared.Answer.TheVariants.{Done, Unsound, OutOfRange}
+use Rattle.board.specs.declared.Refusal.{Refusal}
+use Rattle.board.specs.declared.Refusal.TheVariants.{Unsound, OutOfRange}
 use Rattle.board.specs.declared.Applied.{Applied}
-use Rattle.board.specs.Board.{is_absent, outcome, board_refusal, board_after, says}
+use Rattle.board.specs.Board.{is_absent, outcome, board_refusal, board_after, number, says}
+
+abbrev Answer : Type 0
+Answer = Result (Unit {0}) Refusal
 
 answer_of : ℕ → Answer
-answer_of n = cond (eqb n 0) Done (cond (eqb n 9) Unsound OutOfRange)
+answer_of n = cond (eqb n 0) (Ok tt) (cond (eqb n 9) (Err Unsound) (Err OutOfRange))
 
 answer_back : (a : Answer) → answer_of (says a) ≡ a
 unfolding answer_of
-answer_back Done = refl
-answer_back Unsound = refl
-answer_back OutOfRange = refl
+answer_back (Ok done) = refl
+answer_back (Err Unsound) = refl
+answer_back (Err OutOfRange) = refl
 
 -- over a lent board, c and d at exit
 pub apply_one : (b : Board) (o : Order) (c d : Board) (r s : Answer)
@@ -39,3 +44,7 @@ outcome_of_one o old r s = one_result
 
 pub absent_one : (stand : Stand) (r s : Bool) → r ≡ is_absent stand → s ≡ is_absent stand → r ≡ s
 absent_one stand r s = one_result
+
+-- of a refusal's number
+pub refusal_number_one : (refusal : Refusal) (r s : ℕ) → r ≡ number refusal → s ≡ number refusal → r ≡ s
+refusal_number_one refusal r s = one_result

@@ -1,5 +1,5 @@
 -- The board (01, "The board"). Assumes nothing.
-use Rattle.std.specs.Prelude.{Bool, true, false, not, cond, ◌&&◌, List, [], ◌∷◌, ◌++◌, ℕ, leb, ltb, eqb, length, take, drop}
+use Rattle.std.specs.Prelude.{Bool, true, false, not, cond, ◌&&◌, List, [], ◌∷◌, ◌++◌, ℕ, leb, ltb, eqb, length, take, drop, Result, Ok, Err}
 use Rattle.lists.specs.Tests.{all_of, first_of}
 use Rattle.lists.specs.Lists.{all, rising, pad}
 use Rattle.orders.specs.declared.Order.{Order}
@@ -9,8 +9,8 @@ use Rattle.board.specs.declared.Stand.{Stand}
 use Rattle.board.specs.declared.Stand.TheVariants.{Absent, Offered, Halted}
 use Rattle.board.specs.declared.Place.{Place}
 use Rattle.board.specs.declared.Board.{Board}
-use Rattle.board.specs.declared.Answer.{Answer}
-use Rattle.board.specs.declared.Answer.TheVariants.{Done, Unsound, OutOfRange}
+use Rattle.board.specs.declared.Refusal.{Refusal}
+use Rattle.board.specs.declared.Refusal.TheVariants.{Unsound, OutOfRange}
 
 -- ---- soundness: "Up to 16 images, strictly rising, each offered(share 1..100) or halted(share 0..100), unused places zero, else 9"
 
@@ -100,8 +100,12 @@ board_refusal b o = first_of (board_tests b o)
 abbrev pub board_after : Board → Order → Board
 board_after b o = cond (eqb (board_refusal b o) 0) (holding (images_after o (images b))) b
 
--- the paper's number for each case of the answer; 0 for none
-abbrev pub says : Answer → ℕ
-says Done = 0
-says Unsound = 9
-says OutOfRange = 23
+-- the paper's number for each refusal
+abbrev pub number : Refusal → ℕ
+number Unsound = 9
+number OutOfRange = 23
+
+-- and for each answer; 0 for none
+abbrev pub says : Result (Unit {0}) Refusal → ℕ
+says (Ok done) = 0
+says (Err refusal) = number refusal

@@ -4,6 +4,8 @@ use Rattle.lists.specs.Lists.{all, rising}
 use Rattle.board.specs.declared.Stand.{Stand}
 use Rattle.board.specs.declared.Stand.TheVariants.{Absent, Offered, Halted}
 use Rattle.board.specs.declared.Place.{Place}
+use Rattle.board.specs.declared.table.Effect.{Effect}
+use Rattle.board.specs.declared.table.Effect.TheVariants.{Keeps, Offers, Halts, Resumes, Removes}
 use Rattle.board.specs.Board.{place_fits, before, is_blank, blank, stands, settle}
 
 -- a sound board of these places, of which the first are in use
@@ -26,7 +28,7 @@ pub record Known (places : List Place) (count image at : ℕ) (old : Stand) : Ty
   pub place : PlaceOf places count image at
   pub stood : old ≡ stands image (take count places)
 
--- ---- the effect codes: 0 as before, 1 offered with the order's share, 2 halted with the old share, 3 offered with the old share or absent where that is 0, 4 absent
+-- ---- the effects of the table: with the order's share, with the old share, and offered with the old share or absent where that is 0
 
 abbrev pub state_of : Stand → ℕ
 state_of Absent = 0
@@ -39,14 +41,16 @@ old_share Absent = 0
 old_share (Offered share) = share
 old_share (Halted share) = share
 
--- the code for an order of this kind, 1 to 4, on an image in this state
-abbrev pub effect_of : ℕ → ℕ → ℕ
+-- what an order of this kind, 1 to 4, does to an image in this state
+abbrev pub effect_of : ℕ → ℕ → Effect
 effect_of kind state =
-    cond (eqb kind 1) (cond (eqb state 2) 0 1)
-    (cond (eqb kind 2) (cond (eqb state 2) 0 2) (cond (eqb kind 3) (cond (eqb state 2) 3 0) (cond (eqb state 0) 0 4)))
+    cond (eqb kind 1) (cond (eqb state 2) Keeps Offers)
+    (cond (eqb kind 2) (cond (eqb state 2) Keeps Halts) (cond (eqb kind 3) (cond (eqb state 2) Resumes Keeps) (cond (eqb state 0) Keeps Removes)))
 
--- what a code makes of a stand, where the order's share is `share`
-abbrev pub effected : ℕ → ℕ → Stand → Stand
-effected code share old =
-    cond (eqb code 1) (Offered share)
-    (cond (eqb code 2) (Halted (old_share old)) (cond (eqb code 3) (cond (eqb (old_share old) 0) Absent (Offered (old_share old))) (cond (eqb code 4) Absent old)))
+-- what an effect makes of a stand, where the order's share is `share`
+abbrev pub effected : Effect → ℕ → Stand → Stand
+effected Keeps share old = old
+effected Offers share old = Offered share
+effected Halts share old = Halted (old_share old)
+effected Resumes share old = cond (eqb (old_share old) 0) Absent (Offered (old_share old))
+effected Removes share old = Absent

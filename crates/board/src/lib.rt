@@ -18,14 +18,14 @@ use sound::is_sound;
 pub use table::outcome_of;
 
 // What a board says of an image; the number is its share.
-#[derive(Clone, Copy)]
+#[derive(Clone, Copy, Debug, PartialEq, Eq)]
 pub enum Stand {
     Absent,
     Offered(u8),
     Halted(u8),
 }
 
-#[derive(Clone, Copy)]
+#[derive(Clone, Copy, Debug, PartialEq, Eq)]
 pub struct Place {
     pub image: u32,
     pub stand: Stand,
@@ -38,17 +38,31 @@ pub struct Board {
     pub places: [Place; 16],
 }
 
-#[derive(Clone, Copy)]
-pub enum Answer {
-    Done,
+#[derive(Clone, Copy, Debug, PartialEq, Eq)]
+pub enum Refusal {
     Unsound,
     OutOfRange,
 }
 
+impl From<Refusal> for u8 {
+    ghost use Rattle.std.specs.Prelude.{◌≡◌};
+    ghost use Rattle.board.specs.Board.{number};
+
+    ghost from_gives = { λ refusal n. n ≡ number refusal };
+
+    fn from(refusal: Refusal) -> u8 {
+        match refusal {
+            Refusal::Unsound => 9,
+            Refusal::OutOfRange => 23,
+        }
+    }
+}
+
+// A board, and what it answered to an order: refused, it is the board as it was.
 #[derive(Clone, Copy)]
 pub struct Applied {
     pub board: Board,
-    pub answer: Answer,
+    pub answer: Result<(), Refusal>,
 }
 
 // What an order makes of a board; refused 9 or 23, in that order, and then the board as it was.
@@ -58,18 +72,18 @@ pub fn after_order(board: Board, order: Order) -> Applied
     if !is_sound(board) {
         return Applied {
             board,
-            answer: Answer::Unsound,
+            answer: Err(Refusal::Unsound),
         };
     }
     if !orders::share_fits(order) {
         return Applied {
             board,
-            answer: Answer::OutOfRange,
+            answer: Err(Refusal::OutOfRange),
         };
     }
     Applied {
         board: after(board, order),
-        answer: Answer::Done,
+        answer: Ok(()),
     }
 }
 

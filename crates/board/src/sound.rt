@@ -65,9 +65,5 @@ fn is_blank(p: Place) -> bool
 pub fn absent(stand: Stand) -> bool
     ensures { result ≡ is_absent stand }
 {
-    match stand {
-        Stand::Absent => true,
-        Stand::Offered(_) => false,
-        Stand::Halted(_) => false,
-    }
+    matches!(stand, Stand::Absent)
 }

@@ -1,4 +1,4 @@
-// What each order does in each state: one fixed table of effect codes.
+// What each order does in each state: one fixed table of effects.
 ghost use Rattle.std.specs.Prelude.{◌≡◌, ◌≤◌};
 ghost use Rattle.board.specs.Board.{outcome};
 ghost use Rattle.board.specs.Inside.{state_of, old_share, effect_of, effected};
@@ -6,71 +6,59 @@ ghost use Rattle.board.specs.Inside.{state_of, old_share, effect_of, effected};
 use crate::Stand;
 use orders::Order;
 
-const AS_BEFORE: u8 = 0;
+#[derive(Clone, Copy)]
+enum Effect {
+    Keeps,
+    // With the order's share.
+    Offers,
+    // With the old share, 0 where the image was absent.
+    Halts,
+    // Offers with the old share; removes where that is 0.
+    Resumes,
+    Removes,
+}
 
-// With the order's share.
-const OFFERED: u8 = 1;
+use Effect::{Halts, Keeps, Offers, Removes, Resumes};
 
-// With the old share, 0 where the image was absent.
-const HALTED: u8 = 2;
-
-// Offered with the old share; absent where that is 0.
-const RESUMED: u8 = 3;
-
-const GONE: u8 = 4;
-
-// Three for each kind of order: on an absent image, an offered one, a halted one.
-const EFFECTS: [u8; 12] = [
+// A row for each kind of order: on an absent image, an offered one, a halted one.
+const EFFECTS: [[Effect; 3]; 4] = [
     // publish
-    OFFERED, OFFERED, AS_BEFORE,
+    [Offers, Offers, Keeps],
     // halt
-    HALTED, HALTED, AS_BEFORE,
+    [Halts, Halts, Keeps],
     // resume
-    AS_BEFORE, AS_BEFORE, RESUMED,
+    [Keeps, Keeps, Resumes],
     // withdraw
-    AS_BEFORE, GONE, GONE,
+    [Keeps, Removes, Removes],
 ];
 
 // How the image of an order stands after it.
 pub fn outcome_of(order: Order, old: Stand) -> Stand
     ensures { result ≡ outcome order old }
 {
-    made_by(
-        effect(orders::kind(order), state_of(old)),
-        orders::share(order),
-        old,
-    )
+    let effect = effect_of(orders::kind(order), state_of(old));
+    effected(effect, orders::share(order), old)
 }
 
-fn effect(kind: u8, state: u8) -> u8
+fn effect_of(kind: u8, state: u8) -> Effect
     requires le_kind { (1 ≤ kind) × (kind ≤ 4) }
     requires state_bound { state ≤ 2 }
     ensures { result ≡ effect_of kind state }
 {
-    let at = ((kind - 1) * 3 + state) as usize;
-    EFFECTS[at]
+    EFFECTS[(kind - 1) as usize][state as usize]
 }
 
-fn made_by(code: u8, share: u8, old: Stand) -> Stand
-    ensures { result ≡ effected code share old }
+fn effected(effect: Effect, share: u8, old: Stand) -> Stand
+    ensures { result ≡ effected effect share old }
 {
-    if code == OFFERED {
-        return Stand::Offered(share);
+    match effect {
+        Keeps => old,
+        Offers => Stand::Offered(share),
+        Halts => Stand::Halted(share_of(old)),
+        Resumes if share_of(old) == 0 => Stand::Absent,
+        Resumes => Stand::Offered(share_of(old)),
+        Removes => Stand::Absent,
     }
-    if code == HALTED {
-        return Stand::Halted(share_of(old));
-    }
-    if code == RESUMED {
-        let kept = share_of(old);
-        if kept == 0 {
-            return Stand::Absent;
-        }
-        return Stand::Offered(kept);
-    }
-    if code == GONE {
-        return Stand::Absent;
-    }
-    old
 }
 
 fn state_of(stand: Stand) -> u8
@@ -88,7 +76,6 @@ fn share_of(stand: Stand) -> u8
 {
     match stand {
         Stand::Absent => 0,
-        Stand::Offered(share) => share,
-        Stand::Halted(share) => share,
+        Stand::Offered(share) | Stand::Halted(share) => share,
     }
 }

@@ -11,6 +11,7 @@ use clock::Reading;
 use host::{Held, Host};
 use orders::Order;
 use schedule::Schedule;
+use std::array;
 
 // Fresh hosts, that have delivered nothing.
 pub(crate) fn open(s: Schedule) -> [Station; 8]
@@ -26,34 +27,13 @@ pub(crate) fn open(s: Schedule) -> [Station; 8]
 fn fresh_stations(first: Host) -> [Station; 8]
     ensures { result ≡ listed 8 (fresh_station first) }
 {
-    let mut stations = [fresh_station(first, 0); 8];
-    let mut p: u8 = 0;
-    while p < 8 {
-        stations[p as usize] = fresh_station(first, p);
-        p += 1;
-    }
-    stations
+    array::from_fn(|p| fresh_station(first, p as u8))
 }
 
 fn fresh_station(first: Host, p: u8) -> Station
     ensures { result ≡ fresh_station first p }
 {
-    let plan = first.plan;
-    let last = first.last;
-    let starts = first.starts;
-    let history = first.history;
-    let host = Host {
-        plan,
-        rules: first.rules,
-        d: first.d,
-        bound: first.bound,
-        own: p,
-        last,
-        started: first.started,
-        starts,
-        held: first.held,
-        history,
-    };
+    let host = Host { own: p, ..first };
     let log = no_log();
     Station { host, log }
 }

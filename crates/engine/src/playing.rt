@@ -24,8 +24,7 @@ pub(crate) fn play_all(s: Schedule) -> Outcome
     let mut arrivals = [Tick(0); 384];
     let mut copies: usize = 0;
     let mut refusals = [0u8; 16];
-    let mut t: u64 = 0;
-    while t <= s.end.0 {
+    for t in 0..s.end.0 + 1 {
         let now = Tick(t);
         for p in 0..s.plan.hosts {
             let at = p as usize;
@@ -59,7 +58,6 @@ pub(crate) fn play_all(s: Schedule) -> Outcome
                 copies = post.copies;
             }
         }
-        t += 1;
     }
     outcome_of(s, stations, refusals, copies)
 }
@@ -85,13 +83,5 @@ fn outcome_of(s: Schedule, stations: [Station; 8], refusals: [u8; 16], copies: u
 fn logs_of(stations: [Station; 8]) -> [Log; 8]
     ensures { result ≡ listed 8 (λ p. (get_or stations p no_station).log) }
 {
-    let mut logs = [no_log(); 8];
-    let mut p: usize = 0;
-    while p < 8 {
-        let station = stations[p];
-        let log = station.log;
-        logs[p] = log;
-        p += 1;
-    }
-    logs
+    stations.map(|station| station.log)
 }

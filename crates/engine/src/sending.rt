@@ -27,12 +27,9 @@ pub(crate) fn send_all(
     let delays = s.delays;
     let mut arrivals = before;
     let mut copies = sent;
-    let mut l: u8 = 0;
-    while l < s.plan.link_count {
-        let at = l;
-        l += 1;
-        if is_in(links as u32, at) {
-            let c = place(plan, k, p, at);
+    for l in 0..s.plan.link_count {
+        if is_in(links as u32, l) {
+            let c = place(plan, k, p, l);
             let delay = delays[c];
             copies += 1;
             if delay != 0 {

@@ -56,13 +56,11 @@ fn more(log: Log, history: [Held; 32], count: usize, u: Reading) -> Log
     ensures { result ≡ log_of (list_of log ++ map (delivery u) (take count history)) }
 {
     let mut entries = log.entries;
-    let mut i: usize = 0;
-    while i < count {
+    for i in 0..count {
         entries[log.count + i] = Delivery {
             at: u,
             what: history[i],
         };
-        i += 1;
     }
     Log {
         count: log.count + count,

@@ -16,11 +16,11 @@ use Rattle.network.proofs.Answers.{fine}
 use Rattle.network.proofs.Ranges.{Ranges, ranges, ends}
 use Rattle.schedule.specs.declared.Start.{Start}
 use Rattle.schedule.specs.declared.Schedule.{Schedule}
-use Rattle.schedule.specs.declared.Answer.TheVariants.{Accepted}
-use Rattle.schedule.specs.declared.Found.{Found}
+use Rattle.std.specs.Prelude.{Result, Ok}
+use Rattle.schedule.specs.declared.Refusal.{Refusal}
 use Rattle.schedule.specs.Shape.{links, starts, hosts, value}
 use Rattle.schedule.specs.Schedule.{link_at, plan_of, faults_of, no_start, copy_of, schedule_of}
-use Rattle.schedule.specs.Calls.{read_refusal, schedule_read, says}
+use Rattle.schedule.specs.Calls.{read_refusal, schedule_read, says, found}
 use Rattle.schedule.proofs.Verdicts.{Right}
 use Rattle.schedule.proofs.Parts.{filled_long, unfilled_at, filled_first, fault_set, in_ranges, offset_at, nth, start_is, nth_by_end, nth_host, nth_share, nth_in_turn, fated_high, fated_lost, copy_in}
 use Rattle.schedule.proofs.Records.{sound_shape, plan_clear, faults_in, end_in}
@@ -93,8 +93,10 @@ module _ (bs : List ℕ) (accepted : read_refusal bs ≡ 0) where
   within = rw (eq-eqb (read_refusal bs) 0 accepted) within_of
 
 -- the same of what `read` returns
-pub accepted_within : (bs : List ℕ) (r : Found) → Right bs r → r.answer ≡ Accepted → Within r.schedule
-accepted_within bs r e a = let z : read_refusal bs ≡ 0 = sym (ap (λ (x : ℕ × ℕ). x.0) (sym (ap says a) ∙ e.0)) in rw e.1 (within bs z)
+pub accepted_within : (bs : List ℕ) (r : Result Schedule Refusal) (s : Schedule) → Right bs r → r ≡ Ok s → Within s
+accepted_within bs r s e a =
+    let z : read_refusal bs ≡ 0 = sym (ap (λ (x : ℕ × ℕ). x.0) (sym (ap says a) ∙ e.0)) in
+    rw (sym (ap found a) ∙ e.1) (within bs z)
 
 -- a copy that touches nothing faulty arrives
 pub not_lost : (s : Schedule) → Within s → (k l b : ℕ) → k < 16 → l < 12 → b < 2 → survives s.plan s.faults l ≡ true → 1 ≤ delay_in s k l b

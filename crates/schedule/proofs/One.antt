@@ -1,40 +1,48 @@
--- The promise of `read` admits one result only: its answer's number and index lead back to it, and the schedule is an equation with a
--- definition. Assumes nothing.
-use mathlib.Core.Path.{◌≡◌, refl}
+-- The promise of `read` admits one result only: its two facts name the refusal, or the schedule. Assumes nothing.
+use mathlib.Core.Path.{◌≡◌, refl, sym, ap, ◌∙◌}
 use mathlib.Core.Bool.{cond}
 use mathlib.Core.List.{List}
 use Prim.Native.Nat.{ℕ}
 use lib.Dec.{eqb}
-use Rattle.lists.proofs.One.{one_result, one_answer}
-use Rattle.schedule.specs.declared.Answer.{Answer}
-use Rattle.schedule.specs.declared.Answer.TheVariants.{Accepted, NotASchedule, OutOfRange, BadLink, Parted, OutsideRules}
-use Rattle.schedule.specs.declared.Found.{Found}
-use Rattle.schedule.specs.Calls.{says}
+use Rattle.std.specs.Prelude.{Result, Ok, Err}
+use Rattle.lists.proofs.One.{one_result}
+use Rattle.network.specs.declared.PlanRefusal.{PlanRefusal}
+use Rattle.network.specs.declared.PlanRefusal.TheVariants.{OutOfRange, BadLink, Parted}
+use Rattle.schedule.specs.declared.Refusal.{Refusal}
+use Rattle.schedule.specs.declared.Refusal.TheVariants.{NotASchedule, Plan, OutsideRules}
+use Rattle.schedule.specs.declared.Schedule.{Schedule}
+use Rattle.schedule.specs.Calls.{numbers, says, found}
 use Rattle.schedule.proofs.Verdicts.{Right}
 
-unfoldable answer_of : ℕ × ℕ → Answer
-answer_of n =
-    cond (eqb n.0 0) Accepted
-    (cond (eqb n.0 31) NotASchedule
-    (cond (eqb n.0 1) OutOfRange (cond (eqb n.0 2) BadLink (cond (eqb n.0 3) Parted (OutsideRules n.1)))))
+-- what reading returned, by its numbers and its schedule
+unfoldable answer_of : ℕ × ℕ → Schedule → Result Schedule Refusal
+answer_of n s =
+    cond (eqb n.0 0) (Ok s)
+    (cond (eqb n.0 31) (Err NotASchedule)
+    (cond (eqb n.0 1) (Err (Plan OutOfRange))
+    (cond (eqb n.0 2) (Err (Plan BadLink)) (cond (eqb n.0 3) (Err (Plan Parted)) (Err (OutsideRules n.1))))))
 
-answer_back : (a : Answer) → answer_of (says a) ≡ a
+answer_back : (r : Result Schedule Refusal) → answer_of (says r) (found r) ≡ r
 unfolding answer_of
-answer_back Accepted = refl
-answer_back NotASchedule = refl
-answer_back OutOfRange = refl
-answer_back BadLink = refl
-answer_back Parted = refl
-answer_back (OutsideRules k) = refl
+answer_back (Ok s) = refl
+answer_back (Err NotASchedule) = refl
+answer_back (Err (Plan OutOfRange)) = refl
+answer_back (Err (Plan BadLink)) = refl
+answer_back (Err (Plan Parted)) = refl
+answer_back (Err (OutsideRules k)) = refl
 
-pub one_answered : {numbers : ℕ × ℕ} (a b : Answer) → says a ≡ numbers → says b ≡ numbers → a ≡ b
-one_answered = one_answer says answer_of answer_back
+pub read_one : (bs : List ℕ) (r s : Result Schedule Refusal) → Right bs r → Right bs s → r ≡ s
+read_one bs r s x y =
+    sym (answer_back r)
+    ∙ ap (λ n. answer_of n (found r)) (one_result x.0 y.0)
+    ∙ ap (answer_of (says s)) (one_result x.1 y.1)
+    ∙ answer_back s
 
-pub read_one : (bs : List ℕ) (r s : Found) → Right bs r → Right bs s → (r.answer ≡ s.answer) × (r.schedule ≡ s.schedule)
-read_one bs r s x y = (one_answered r.answer s.answer x.0 y.0, one_result x.1 y.1)
-
-pub number_of_one : (a : Answer) (m n : ℕ) → m ≡ (says a).0 → n ≡ (says a).0 → m ≡ n
+pub number_of_one : (a : Refusal) (m n : ℕ) → m ≡ (numbers a).0 → n ≡ (numbers a).0 → m ≡ n
 number_of_one a m n = one_result
 
-pub index_of_one : (a : Answer) (m n : ℕ) → m ≡ (says a).1 → n ≡ (says a).1 → m ≡ n
+pub index_of_one : (a : Refusal) (m n : ℕ) → m ≡ (numbers a).1 → n ≡ (numbers a).1 → m ≡ n
 index_of_one a m n = one_result
+
+pub from_one : (p : PlanRefusal) (r s : Refusal) → r ≡ Plan p → s ≡ Plan p → r ≡ s
+from_one p r s = one_result

@@ -7,24 +7,26 @@ use native.Mathlib.Omega.{arith}
 use borrow.Author.Tests.{eq-eqb, eqb-true, eqb-false, lt-ltb, le-ltb, lt-leb}
 use lib.Dec.{eqb, ltb}
 use lib.ListN.{length}
+use Rattle.std.specs.Prelude.{Result, Ok, Err}
 use Rattle.lists.specs.Searches.{least}
 use Rattle.lists.specs.Tests.{all_of, first_of}
 use Rattle.lists.proofs.TestLaws.{first_of_left, first_of_right}
-use Rattle.network.specs.Network.{worst, bounds, plan_tests, plan_refusal, planned, Said, refused}
+use Rattle.network.specs.Network.{worst, bounds, plan_tests, plan_refusal, planned, Said, refused, number, says as said}
 use Rattle.network.specs.declared.Plan.{Plan}
 use Rattle.network.specs.declared.Bounds.{Bounds}
+use Rattle.network.specs.declared.PlanRefusal.{PlanRefusal}
+use Rattle.network.specs.declared.PlanRefusal.TheVariants.{OutOfRange, BadLink, Parted}
 use Rattle.network.proofs.Answers.{fine}
 use Rattle.network.proofs.Ranges.{ranges}
-use Rattle.schedule.specs.declared.Answer.{Answer}
-use Rattle.schedule.specs.declared.Answer.TheVariants.{Accepted, OutsideRules}
-use Rattle.schedule.specs.declared.Found.{Found}
+use Rattle.schedule.specs.declared.Refusal.{Refusal}
+use Rattle.schedule.specs.declared.Refusal.TheVariants.{NotASchedule, Plan as Unplanned, OutsideRules}
 use Rattle.schedule.specs.declared.Schedule.{Schedule}
 use Rattle.schedule.specs.declared.shape.Tally.{Tally}
 use Rattle.schedule.specs.Shape.{records, is_schedule}
 use Rattle.schedule.specs.Schedule.{plan_of, schedule_of}
 use Rattle.schedule.specs.Rules.{outside, first_outside}
 use Rattle.schedule.specs.Inside.{Shaped, Judged, InNumbers}
-use Rattle.schedule.specs.Calls.{read_tests, read_refusal, answered, nothing, schedule_read, says}
+use Rattle.schedule.specs.Calls.{read_tests, read_refusal, answered, schedule_read, numbers, says, found}
 
 -- ---- what planning said
 
@@ -38,10 +40,21 @@ said_refusal p = go (eqb (plan_refusal p) 0) refl
 pub said_bounds : (p : Plan) → plan_refusal p ≡ 0 → (planned p).bounds ≡ bounds p (worst p)
 said_bounds p e = rw (eq-eqb (plan_refusal p) 0 e)
 
-pub unplanned : (p q : Plan) (n : ℕ) → p ≡ q → refused n ≡ planned p → n ≡ plan_refusal q
-unplanned p q n e w = ap (λ (s : Said). s.refusal) w ∙ said_refusal p ∙ ap plan_refusal e
+-- planning's refusal is none of 0 and 32
+pub number_some : (r : PlanRefusal) → eqb (number r) 0 ≡ false
+number_some OutOfRange = refl
+number_some BadLink = refl
+number_some Parted = refl
 
-pub judged : (bs : List ℕ) (t : Tally) (p : Plan) (b : Bounds) → Shaped bs t → p ≡ plan_of bs → record { refusal = 0; bounds = b } ≡ planned p → Judged bs t p b
+pub number_few : (r : PlanRefusal) → eqb (number r) 32 ≡ false
+number_few OutOfRange = refl
+number_few BadLink = refl
+number_few Parted = refl
+
+pub unplanned : (p q : Plan) (r : PlanRefusal) → p ≡ q → said (Err r) ≡ planned p → number r ≡ plan_refusal q
+unplanned p q r e w = ap (λ (s : Said). s.refusal) w ∙ said_refusal p ∙ ap plan_refusal e
+
+pub judged : (bs : List ℕ) (t : Tally) (p : Plan) (b : Bounds) → Shaped bs t → p ≡ plan_of bs → said (Ok b) ≡ planned p → Judged bs t p b
 judged bs t p b s e w =
     let c : plan_refusal p ≡ 0 = sym (said_refusal p) ∙ sym (ap (λ (s : Said). s.refusal) w) in
     record { shaped = s; plan_is = e; clear = c; bounds_are = ap (λ (s : Said). s.bounds) w ∙ said_bounds p c }
@@ -61,19 +74,19 @@ too_long bs h = rw (lt-leb (length bs) 8192 h)
 
 module _ (bs : List ℕ) where
   -- what reading must answer
-  abbrev pub Right : Found → Type 0
-  Right r = (says r.answer ≡ answered bs) × (r.schedule ≡ schedule_read bs)
+  abbrev pub Right : Result Schedule Refusal → Type 0
+  Right r = (says r ≡ answered bs) × (found r ≡ schedule_read bs)
 
   -- a refusal, and nothing else
-  pub right_refused : (r : Found) (a : Answer) → (r.answer ≡ a) × (r.schedule ≡ nothing) → says a ≡ answered bs → eqb (read_refusal bs) 0 ≡ false → Right r
-  right_refused r a e g z = (ap says e.0 ∙ g, e.1 ∙ (rw z))
+  right_refused : (r : Refusal) → numbers r ≡ answered bs → eqb (read_refusal bs) 0 ≡ false → Right (Err r)
+  right_refused r g z = (g, (rw z))
 
   misshapen : is_schedule bs ≡ false → read_refusal bs ≡ 31
   unfolding read_tests
   misshapen s = rw s
 
-  pub right_misshapen : (r : Found) (a : Answer) → (r.answer ≡ a) × (r.schedule ≡ nothing) → says a ≡ (31, 0) → is_schedule bs ≡ false → Right r
-  right_misshapen r a e n s = let m = misshapen s in right_refused r a e (n ∙ (rw m)) (rw m)
+  pub right_misshapen : is_schedule bs ≡ false → Right (Err NotASchedule)
+  right_misshapen s = let m = misshapen s in right_refused NotASchedule (rw m) (rw m)
 
   module _ (s : is_schedule bs ≡ true) where
     past_shape : read_refusal bs ≡ first_of (plan_tests (plan_of bs) ++ ((32, ltb (first_outside bs) (records bs)) ∷ []))
@@ -81,14 +94,13 @@ module _ (bs : List ℕ) where
     past_shape = rw s
 
     -- 1 to 3
-    pub right_unplanned : (r : Found) (a : Answer) (n : ℕ) → (r.answer ≡ a) × (r.schedule ≡ nothing) → says a ≡ (n, 0) → eqb n 0 ≡ false → eqb n 32 ≡ false
-        → n ≡ plan_refusal (plan_of bs) → Right r
-    right_unplanned r a n e m z y q =
-        let f : read_refusal bs ≡ n =
+    pub right_unplanned : (r : PlanRefusal) → number r ≡ plan_refusal (plan_of bs) → Right (Err (Unplanned r))
+    right_unplanned r q =
+        let f : read_refusal bs ≡ number r =
         past_shape
-        ∙ first_of_left (plan_tests (plan_of bs)) ((32, ltb (first_outside bs) (records bs)) ∷ []) (λ w. eqb-false n 0 z (q ∙ w))
+        ∙ first_of_left (plan_tests (plan_of bs)) ((32, ltb (first_outside bs) (records bs)) ∷ []) (λ w. eqb-false _ 0 (number_some r) (q ∙ w))
         ∙ sym q in
-        right_refused r a e (m ∙ (rw (f, y))) (rw (f, z))
+        right_refused (Unplanned r) (rw (f, number_few r)) (rw (f, number_some r))
 
     module _ (clear : plan_refusal (plan_of bs) ≡ 0) where
       past_plan : read_refusal bs ≡ cond (ltb (first_outside bs) (records bs)) 32 0
@@ -96,12 +108,12 @@ module _ (bs : List ℕ) where
       past_plan = past_shape ∙ first_of_right (plan_tests (plan_of bs)) ((32, ltb (first_outside bs) (records bs)) ∷ []) refl clear
 
       -- 32 with its index
-      pub right_outside : (r : Found) (k : ℕ) → (r.answer ≡ OutsideRules k) × (r.schedule ≡ nothing) → k ≡ first_outside bs → k < records bs → Right r
-      right_outside r k e q h =
+      pub right_outside : (k : ℕ) → k ≡ first_outside bs → k < records bs → Right (Err (OutsideRules k))
+      right_outside k q h =
           let f : read_refusal bs ≡ 32 = past_plan ∙ (rw (lt-ltb (first_outside bs) (records bs) (omega arith))) in
-          right_refused r (OutsideRules k) e (rw (f, ← q)) (rw f)
+          right_refused (OutsideRules k) (rw (f, ← q)) (rw f)
 
-      pub right_accepted : (s : Schedule) → s ≡ schedule_of bs → records bs ≤ first_outside bs → Right (record { answer = Accepted; schedule = s })
+      pub right_accepted : (s : Schedule) → s ≡ schedule_of bs → records bs ≤ first_outside bs → Right (Ok s)
       right_accepted s q h =
           let f : read_refusal bs ≡ 0 = past_plan ∙ (rw (le-ltb (first_outside bs) (records bs) h)) in
           (rw f, q ∙ (rw f))

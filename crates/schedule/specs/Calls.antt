@@ -1,9 +1,9 @@
 -- What reading answers (01, "Refusal numbers"). Assumes nothing.
-use Rattle.std.specs.Prelude.{Bool, cond, not, List, [], ◌∷◌, ◌++◌, ℕ, ltb, eqb, replicate}
+use Rattle.std.specs.Prelude.{Result, Ok, Err, Bool, cond, not, List, [], ◌∷◌, ◌++◌, ℕ, ltb, eqb, replicate}
 use Rattle.lists.specs.Tests.{first_of}
-use Rattle.network.specs.Network.{no_link, plan_tests}
-use Rattle.schedule.specs.declared.Answer.{Answer}
-use Rattle.schedule.specs.declared.Answer.TheVariants.{Accepted, NotASchedule, OutOfRange, BadLink, Parted, OutsideRules}
+use Rattle.network.specs.Network.{no_link, plan_tests, number}
+use Rattle.schedule.specs.declared.Refusal.{Refusal}
+use Rattle.schedule.specs.declared.Refusal.TheVariants.{NotASchedule, Plan, OutsideRules}
 use Rattle.schedule.specs.declared.Schedule.{Schedule}
 use Rattle.schedule.specs.Shape.{records, is_schedule}
 use Rattle.schedule.specs.Schedule.{plan_of, schedule_of, no_start}
@@ -36,11 +36,18 @@ nothing =
 abbrev pub schedule_read : List ℕ → Schedule
 schedule_read bs = cond (eqb (read_refusal bs) 0) (schedule_of bs) nothing
 
--- the paper's number and index for each case of the answer
-abbrev pub says : Answer → ℕ × ℕ
-says Accepted = (0, 0)
-says NotASchedule = (31, 0)
-says OutOfRange = (1, 0)
-says BadLink = (2, 0)
-says Parted = (3, 0)
-says (OutsideRules k) = (32, k)
+-- the paper's number and index for each refusal; planning's are its own
+abbrev pub numbers : Refusal → ℕ × ℕ
+numbers NotASchedule = (31, 0)
+numbers (Plan r) = (number r, 0)
+numbers (OutsideRules k) = (32, k)
+
+-- those of what reading returns, "zero elsewhere"
+abbrev pub says : Result Schedule Refusal → ℕ × ℕ
+says (Ok s) = (0, 0)
+says (Err r) = numbers r
+
+-- and its schedule
+abbrev pub found : Result Schedule Refusal → Schedule
+found (Ok s) = s
+found (Err r) = nothing

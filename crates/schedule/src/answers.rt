@@ -1,33 +1,26 @@
-// The numbers of an answer.
+// The numbers of a refusal.
 ghost use Rattle.std.specs.Prelude.{◌≡◌};
-ghost use Rattle.schedule.specs.Calls.{says};
+ghost use Rattle.schedule.specs.Calls.{numbers};
 
-use crate::Answer;
+use crate::Refusal;
 
-// The refusal; 0 of an accepted schedule.
-pub fn number_of(answer: Answer) -> u8
-    ensures { result ≡ (says answer).0 }
+// 31, 1 to 3 by planning, or 32.
+pub fn number_of(refusal: Refusal) -> u8
+    ensures { result ≡ (numbers refusal).0 }
 {
-    match answer {
-        Answer::Accepted => 0,
-        Answer::NotASchedule => 31,
-        Answer::OutOfRange => 1,
-        Answer::BadLink => 2,
-        Answer::Parted => 3,
-        Answer::OutsideRules(_) => 32,
+    match refusal {
+        Refusal::NotASchedule => 31,
+        Refusal::Plan(refusal) => u8::from(refusal),
+        Refusal::OutsideRules(_) => 32,
     }
 }
 
-// The index of the record outside the rules; 0 of any other answer.
-pub fn index_of(answer: Answer) -> usize
-    ensures { result ≡ (says answer).1 }
+// The index of the record outside the rules; 0 of any other refusal.
+pub fn index_of(refusal: Refusal) -> usize
+    ensures { result ≡ (numbers refusal).1 }
 {
-    match answer {
-        Answer::Accepted => 0,
-        Answer::NotASchedule => 0,
-        Answer::OutOfRange => 0,
-        Answer::BadLink => 0,
-        Answer::Parted => 0,
-        Answer::OutsideRules(index) => index,
+    match refusal {
+        Refusal::OutsideRules(index) => index,
+        _ => 0,
     }
 }

@@ -9,9 +9,7 @@ use crate::fates::delays_of;
 use crate::shape::{Tally, next};
 use crate::starts::starts_of;
 use clock::Tick;
-use network::{Bounds, Faults, Link, Plan};
-
-pub(crate) const NO_LINK: Link = Link { a: 0, b: 0 };
+use network::{Bounds, Faults, Link, NO_LINK, Plan};
 
 pub(crate) fn plan_of(bytes: &[u8], t: Tally) -> Plan
     requires { Shaped bytes.now t }

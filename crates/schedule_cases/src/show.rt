@@ -1,38 +1,23 @@
-// An answer as a line: the refusal, or the schedule with every copy whose delay is not 1.
+// What reading answers as a line: the refusal, or the schedule with every copy whose delay is not 1.
 use network::{Link, Plan};
-use schedule::{Answer, Found, Schedule, Start};
+use schedule::{Refusal, Schedule, Start};
 use std::io;
 
-pub(crate) fn found(rt: &impl Print, f: Found) -> io::Result<()> {
-    let answer = f.answer;
-    let s = f.schedule;
-    match answer {
-        Answer::Accepted => {
-            accepted(rt, s)?;
-        }
-        Answer::NotASchedule => {
-            refused(rt, 31)?;
-        }
-        Answer::OutOfRange => {
-            refused(rt, 1)?;
-        }
-        Answer::BadLink => {
-            refused(rt, 2)?;
-        }
-        Answer::Parted => {
-            refused(rt, 3)?;
-        }
-        Answer::OutsideRules(k) => {
-            refused(rt, 32)?;
-            number(rt, k as u64)?;
-        }
+pub(crate) fn found(rt: &impl Print, f: Result<Schedule, Refusal>) -> io::Result<()> {
+    match f {
+        Ok(s) => accepted(rt, s)?,
+        Err(refusal) => refused(rt, refusal)?,
     }
     println!(rt)
 }
 
-fn refused(rt: &impl Print, n: u64) -> io::Result<()> {
+fn refused(rt: &impl Print, refusal: Refusal) -> io::Result<()> {
     print!(rt; "refused")?;
-    number(rt, n)
+    number(rt, schedule::number_of(refusal) as u64)?;
+    if let Refusal::OutsideRules(index) = refusal {
+        number(rt, index as u64)?;
+    }
+    Ok(())
 }
 
 fn number(rt: &impl Print, n: u64) -> io::Result<()> {
@@ -74,23 +59,17 @@ fn plan(rt: &impl Print, p: Plan) -> io::Result<()> {
 }
 
 fn links(rt: &impl Print, pairs: [Link; 12]) -> io::Result<()> {
-    let mut i: usize = 0;
-    while i < 12 {
-        let l = pairs[i];
+    for l in pairs {
         number(rt, l.a as u64)?;
         number(rt, l.b as u64)?;
-        i += 1;
     }
     Ok(())
 }
 
 fn offsets(rt: &impl Print, set: [u8; 8]) -> io::Result<()> {
     print!(rt; " offsets")?;
-    let mut i: usize = 0;
-    while i < 8 {
-        let x = set[i];
+    for x in set {
         number(rt, x as u64)?;
-        i += 1;
     }
     Ok(())
 }
@@ -98,11 +77,8 @@ fn offsets(rt: &impl Print, set: [u8; 8]) -> io::Result<()> {
 fn starts(rt: &impl Print, all: [Start; 16], count: usize) -> io::Result<()> {
     print!(rt; " starts")?;
     number(rt, count as u64)?;
-    let mut i: usize = 0;
-    while i < 16 {
-        let s = all[i];
+    for s in all {
         start(rt, s)?;
-        i += 1;
     }
     Ok(())
 }
@@ -123,14 +99,11 @@ fn start(rt: &impl Print, s: Start) -> io::Result<()> {
 
 fn delays(rt: &impl Print, all: [u8; 384]) -> io::Result<()> {
     print!(rt; " delays")?;
-    let mut i: usize = 0;
-    while i < 384 {
-        let x = all[i];
-        if x != 1 {
+    for (i, x) in all.iter().enumerate() {
+        if *x != 1 {
             number(rt, i as u64)?;
-            number(rt, x as u64)?;
+            number(rt, *x as u64)?;
         }
-        i += 1;
     }
     Ok(())
 }

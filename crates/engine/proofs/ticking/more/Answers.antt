@@ -1,5 +1,4 @@
 -- The first i are behind what was there. Assumes nothing.
-use borrow.Author.Rules.{rules}
 use native.Mathlib.Omega.{arith}
 use Rattle.engine.proofs.Logs.{more_turn}
 use Rattle.engine.proofs.ticking.more.Goals as goal
@@ -8,4 +7,4 @@ pub loop-i-preserved : goal.loop-i-preserved
 loop-i-preserved c = let a = c.args in
     let s = c.loop-i in
     let p = c.requires in
-    (search rules, more_turn a.u a.log p.0 a.history s.i s.entries (omega arith) (omega arith) s.invariant.1)
+    more_turn a.u a.log p.0 a.history s.i s.entries (omega arith) (omega arith) s.invariant

@@ -1,6 +1,5 @@
 -- The first i are behind what was there. Assumes nothing.
 use mathlib.Core.Path.{◌≡◌}
-use Prim.Native.Nat.{◌-◌, ◌≤◌}
 use mathlib.Core.List.{◌++◌, map}
 use lib.ListN.{take}
 use Rattle.lists.specs.Lists.{pad}
@@ -9,7 +8,4 @@ use Rattle.engine.specs.Run.{delivery}
 use Rattle.engine.proofs.ticking.more.Given as goal
 
 abbrev pub invariant-loop-i : goal.invariant-loop-i
-invariant-loop-i l = (l.i ≤ l.count) × (l.entries ≡ pad 16 no_delivery (list_of l.log ++ map (delivery l.u) (take l.i l.history)))
-
-abbrev pub decreases-loop-i : goal.decreases-loop-i
-decreases-loop-i l = l.count - l.i
+invariant-loop-i l = l.entries ≡ pad 16 no_delivery (list_of l.log ++ map (delivery l.u) (take l.i l.history))
