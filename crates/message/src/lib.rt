@@ -7,11 +7,12 @@ mod writing;
 
 ghost use Rattle.std.specs.Prelude.{◌≡◌};
 ghost use Rattle.message.specs.Layout.{order_place};
+ghost use Rattle.message.specs.Calls.{write_number, read_number};
 
 use clock::{LARGEST_STAMP, Reading};
-use fields::{Fault, Slot};
+use fields::Slot;
 use orders::Order;
-pub use reader::{Reader, next_number, open, order_bytes, whole};
+pub use reader::Reader;
 pub use reading::{order_part, read};
 pub use writing::write;
 
@@ -24,12 +25,22 @@ pub struct Message {
     pub order: Order,
 }
 
-// What writing answers: the message's length, or 23, or 22.
-#[derive(Clone, Copy)]
-pub enum Written {
-    Length(usize),
+// Why a message is not written.
+#[derive(Clone, Copy, Debug, PartialEq, Eq)]
+pub enum WriteRefusal {
     OutOfRange,
     NoRoom,
+}
+
+impl From<WriteRefusal> for u8 {
+    ghost from_gives = { λ r n. n ≡ write_number r };
+
+    fn from(refusal: WriteRefusal) -> u8 {
+        match refusal {
+            WriteRefusal::OutOfRange => 23,
+            WriteRefusal::NoRoom => 22,
+        }
+    }
 }
 
 // A message that was read, with the place and the size of its order's bytes.
@@ -40,19 +51,22 @@ pub struct Found {
     pub size: usize,
 }
 
-// What reading answers: the message, or 23, or 30.
-#[derive(Clone, Copy)]
-pub enum Got {
-    Message(Found),
+// Why bytes are not read.
+#[derive(Clone, Copy, Debug, PartialEq, Eq)]
+pub enum ReadRefusal {
     WrongRules,
     NotAMessage,
 }
 
-// What the next field of a reader answers: its number, or its fault.
-#[derive(Clone, Copy)]
-pub enum Number {
-    Value(u64),
-    Wrong(Fault),
+impl From<ReadRefusal> for u8 {
+    ghost from_gives = { λ r n. n ≡ read_number r };
+
+    fn from(refusal: ReadRefusal) -> u8 {
+        match refusal {
+            ReadRefusal::WrongRules => 23,
+            ReadRefusal::NotAMessage => 30,
+        }
+    }
 }
 
 pub const STAMP: Slot = Slot {
