@@ -1,4 +1,6 @@
 // A host's calls, each on a state that stays as it is, at a reading that changes from call to call.
+ghost use Rattle.std.specs.Prelude.{◌<◌};
+
 use crate::{networks, timing};
 use clock::Reading;
 use host::{Held, Host, Refusal, Sent};
@@ -68,7 +70,7 @@ fn tick(rt: &(impl Print + CpuClock), name: &str, h: Host, u: u64, rounds: u64) 
     print!(rt; "{name}: delivers {}", delivered(told))?;
     timing::timed(rt, rounds, |round| {
         let ticked = host::after_tick(h, near(u, round), &mut out);
-        delivered(ticked.answer).wrapping_add(odd(ticked.host))
+        delivered(ticked.answer).wrapping_add(odd(ticked.host.last))
     })
 }
 
@@ -80,7 +82,7 @@ fn start(rt: &(impl Print + CpuClock), name: &str, h: Host, rounds: u64) -> io::
     )?;
     timing::timed(rt, rounds, |round| {
         let started = host::after_start(h, near(1000, round), Order::Halt(7));
-        sent(started.answer) + odd(started.host)
+        sent(started.answer) + odd(started.host.last)
     })
 }
 
@@ -99,7 +101,7 @@ fn receive(
     timing::timed(rt, rounds, |round| {
         let copy = halt(near(stamp, round).0);
         let received = host::after_receive(h, Reading(1000), 1, 0, copy);
-        sent(received.answer) + odd(received.host)
+        sent(received.answer) + odd(received.host.last)
     })
 }
 
@@ -108,16 +110,20 @@ fn near(u: u64, round: u64) -> Reading {
     Reading(u % 1_000_000 + round % 4)
 }
 
-// What a state adds to the sum, so that it is made.
-fn odd(h: Host) -> u64 {
-    h.last.0 % 2
+// What the state made adds to the sum, so that it is made.
+fn odd(last: Reading) -> u64
+    ensures { result < 2 }
+{
+    last.0 % 2
 }
 
 fn delivered(answer: Result<usize, Refusal>) -> u64 {
     answer.unwrap_or(0) as u64
 }
 
-fn sent(answer: Result<Sent, Refusal>) -> u64 {
+fn sent(answer: Result<Sent, Refusal>) -> u64
+    ensures { result < 65536 }
+{
     match answer {
         Ok(sent) => u64::from(sent.links),
         Err(_) => 0,
