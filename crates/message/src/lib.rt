@@ -16,7 +16,7 @@ pub use reader::Reader;
 pub use reading::{order_part, read};
 pub use writing::write;
 
-#[derive(Clone, Copy)]
+#[derive(Clone, Copy, Debug, PartialEq, Eq)]
 pub struct Message {
     pub stamp: Reading,
     pub source: u8,
@@ -44,7 +44,7 @@ impl From<WriteRefusal> for u8 {
 }
 
 // A message that was read, with the place and the size of its order's bytes.
-#[derive(Clone, Copy)]
+#[derive(Clone, Copy, Debug, PartialEq, Eq)]
 pub struct Found {
     pub message: Message,
     pub start: usize,
