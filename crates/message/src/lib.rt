@@ -20,7 +20,7 @@ pub use writing::write;
 pub struct Message {
     pub stamp: Reading,
     pub source: u8,
-    // 1..8 under the second rules, 0 under the first.
+    // 1..8 under the second rules, 0 under the first; a number, as a call takes any and refuses the rest.
     pub hop: u8,
     pub order: Order,
 }
@@ -43,7 +43,7 @@ impl From<WriteRefusal> for u8 {
     }
 }
 
-// A message that was read, with the place and the size of its order's bytes.
+// A message that was read, with the place and the size of its order's bytes: numbers, as C is given them.
 #[derive(Clone, Copy, Debug, PartialEq, Eq)]
 pub struct Found {
     pub message: Message,
@@ -91,6 +91,7 @@ pub const HOP: Slot = Slot {
 };
 
 // Where the order's field begins: after stamp and source, and under the second rules the hop.
+// A rule set is a number, as a call takes any and refuses the rest.
 fn order_place(rules: u8) -> usize
     ensures { result ≡ order_place rules }
 {
