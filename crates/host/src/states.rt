@@ -16,18 +16,13 @@ pub(crate) fn at_reading(
 ) -> Host
     ensures { result ≡ with host last starts started history held }
 {
-    let plan = host.plan;
     Host {
-        plan,
-        rules: host.rules,
-        d: host.d,
-        bound: host.bound,
-        own: host.own,
         last,
         started,
         starts,
         held,
         history,
+        ..host
     }
 }
 
@@ -35,7 +30,5 @@ pub(crate) fn at_reading(
 pub(crate) fn later(host: Host, u: Reading) -> Host
     ensures { result ≡ with host u host.starts host.started host.history host.held }
 {
-    let mut after = host;
-    after.last = u;
-    after
+    Host { last: u, ..host }
 }

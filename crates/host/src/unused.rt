@@ -22,13 +22,7 @@ pub(crate) fn no_held() -> Held
 pub(crate) fn links_unused(links: [Link; 12], used: usize) -> bool
     ensures { result ≡ all is_no_link (drop used links) }
 {
-    let mut ok = true;
-    let mut i = used;
-    while i < 12 {
-        ok = ok & is_no_link(links[i]);
-        i += 1;
-    }
-    ok
+    links.iter().skip(used).all(|l| is_no_link(*l))
 }
 
 fn is_no_link(l: Link) -> bool
@@ -41,13 +35,7 @@ fn is_no_link(l: Link) -> bool
 pub(crate) fn starts_unused(starts: [Reading; 4], used: usize) -> bool
     ensures { result ≡ all is_no_reading (drop used starts) }
 {
-    let mut ok = true;
-    let mut i = used;
-    while i < 4 {
-        ok = ok & is_no_reading(starts[i]);
-        i += 1;
-    }
-    ok
+    starts.iter().skip(used).all(|s| is_no_reading(*s))
 }
 
 fn is_no_reading(s: Reading) -> bool

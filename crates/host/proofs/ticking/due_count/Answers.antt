@@ -2,5 +2,5 @@
 use Rattle.host.proofs.Facts.{sound_is}
 use Rattle.host.proofs.ticking.due_count.Goals as goal
 
-pub count_due-requires : goal.count_due-requires
-count_due-requires c = (sound_is _ c.requires).held
+pub shared_ref_as_front-held : goal.shared_ref_as_front-held
+shared_ref_as_front-held c = (sound_is _ c.requires).held
