@@ -1,5 +1,6 @@
 // A board filled to its last place, and orders drawn from a fixed seed.
-use crate::{lent, show};
+use crate::lent::{after_order, told};
+use crate::publish;
 use board::Board;
 use orders::Order;
 use std::io;
@@ -7,64 +8,36 @@ use std::io;
 // Sixteen images, a seventeenth that changes nothing, and its room once another is withdrawn.
 pub(crate) fn full(rt: &impl Print) -> io::Result<()> {
     let mut b = crate::empty();
-    let mut i: u32 = 0;
-    while i < 16 {
+    for i in 0..16 {
         b = after(b, Order::Halt(32 - 2 * i));
-        i += 1;
     }
-    show::applied(
-        rt,
-        lent::after_order(
-            b,
-            Order::Publish {
-                image: 7,
-                share: 50,
-            },
-        ),
-    )?;
-    show::applied(rt, lent::after_order(b, Order::Halt(7)))?;
-    show::applied(rt, lent::after_order(b, Order::Resume(7)))?;
-    show::applied(
-        rt,
-        lent::after_order(
-            b,
-            Order::Publish {
-                image: 8,
-                share: 50,
-            },
-        ),
-    )?;
+    let seventeenth = [
+        publish(7, 50),
+        Order::Halt(7),
+        Order::Resume(7),
+        publish(8, 50),
+    ];
+    for order in seventeenth {
+        told(rt, b, order)?;
+    }
     b = after(b, Order::Withdraw(32));
-    show::applied(rt, lent::after_order(b, Order::Halt(1)))?;
+    told(rt, b, Order::Halt(1))?;
     b = after(b, Order::Resume(2));
-    show::applied(
-        rt,
-        lent::after_order(
-            b,
-            Order::Publish {
-                image: 40,
-                share: 50,
-            },
-        ),
-    )
+    told(rt, b, publish(40, 50))
 }
 
 fn after(b: Board, order: Order) -> Board {
-    let a = lent::after_order(b, order);
-    let next = a.board;
-    next
+    after_order(b, order).board
 }
 
 pub(crate) fn many(rt: &impl Print, count: u64) -> io::Result<()> {
     let mut b = crate::empty();
     let mut seed: u64 = 2026;
-    let mut i: u64 = 0;
-    while i < count {
+    for _ in 0..count {
         let order = drawn(seed);
-        show::applied(rt, lent::after_order(b, order))?;
+        told(rt, b, order)?;
         b = after(b, order);
         seed = next(next(next(seed)));
-        i += 1;
     }
     Ok(())
 }

@@ -7,14 +7,19 @@ mod lent;
 mod show;
 
 use board::{Board, Place, Stand};
+use lent::told;
 use orders::Order;
 use std::io;
 
 fn main(rt: HostRuntime) -> io::Result<()> {
-    cells(&rt, Stand::Absent)?;
-    cells(&rt, Stand::Offered(30))?;
-    cells(&rt, Stand::Halted(30))?;
-    cells(&rt, Stand::Halted(0))?;
+    for stand in [
+        Stand::Absent,
+        Stand::Offered(30),
+        Stand::Halted(30),
+        Stand::Halted(0),
+    ] {
+        cells(&rt, stand)?;
+    }
     unsound(&rt)?;
     drawn::full(&rt)?;
     drawn::many(&rt, 600)
@@ -23,32 +28,29 @@ fn main(rt: HostRuntime) -> io::Result<()> {
 // Each order on image 7 where it stands so.
 fn cells(rt: &impl Print, stand: Stand) -> io::Result<()> {
     let b = only(7, stand);
-    show::applied(
-        rt,
-        lent::after_order(
-            b,
-            Order::Publish {
-                image: 7,
-                share: 45,
-            },
-        ),
-    )?;
-    show::applied(rt, lent::after_order(b, Order::Halt(7)))?;
-    show::applied(rt, lent::after_order(b, Order::Resume(7)))?;
-    show::applied(rt, lent::after_order(b, Order::Withdraw(7)))
+    for order in [
+        publish(7, 45),
+        Order::Halt(7),
+        Order::Resume(7),
+        Order::Withdraw(7),
+    ] {
+        told(rt, b, order)?;
+    }
+    Ok(())
+}
+
+pub(crate) fn publish(image: u32, share: u8) -> Order {
+    Order::Publish { image, share }
 }
 
 // The board with that image standing so; the empty board where it is absent.
-pub(crate) fn only(image: u32, stand: Stand) -> Board {
+fn only(image: u32, stand: Stand) -> Board {
     let mut b = empty();
-    b.places[0] = Place { image, stand };
-    match stand {
-        Stand::Absent => empty(),
-        _ => {
-            b.count = 1;
-            b
-        }
+    if stand != Stand::Absent {
+        b.count = 1;
+        b.places[0] = Place { image, stand };
     }
+    b
 }
 
 pub(crate) fn empty() -> Board {
@@ -61,52 +63,41 @@ pub(crate) fn empty() -> Board {
     }
 }
 
+// The board with one place more in use, behind the others.
+fn beside(b: Board, image: u32, stand: Stand) -> Board {
+    let mut more = b;
+    if more.count < 16 {
+        more.places[more.count] = Place { image, stand };
+        more.count += 1;
+    }
+    more
+}
+
+// The board with another count.
+fn counting(b: Board, count: usize) -> Board {
+    Board { count, ..b }
+}
+
 // Each way of not being sound, with an order that would be refused 23: 9 comes first. Then that order on a sound board, and shares at the edge.
 fn unsound(rt: &impl Print) -> io::Result<()> {
-    let out = Order::Publish { image: 9, share: 0 };
-    let mut b = empty();
-    b.count = 17;
-    show::applied(rt, lent::after_order(b, out))?;
-    b.count = 1;
-    show::applied(rt, lent::after_order(b, out))?;
-    show::applied(rt, lent::after_order(only(0, Stand::Offered(0)), out))?;
-    show::applied(rt, lent::after_order(only(0, Stand::Offered(101)), out))?;
-    show::applied(rt, lent::after_order(only(0, Stand::Halted(101)), out))?;
-    b = only(5, Stand::Offered(100));
-    b.places[1] = Place {
-        image: 5,
-        stand: Stand::Halted(100),
-    };
-    show::applied(rt, lent::after_order(b, out))?;
-    b.count = 2;
-    show::applied(rt, lent::after_order(b, out))?;
-    b.places[1] = Place {
-        image: 6,
-        stand: Stand::Halted(100),
-    };
-    show::applied(rt, lent::after_order(b, out))?;
-    show::applied(
-        rt,
-        lent::after_order(
-            b,
-            Order::Publish {
-                image: 9,
-                share: 101,
-            },
-        ),
-    )?;
-    show::applied(
-        rt,
-        lent::after_order(b, Order::Publish { image: 9, share: 1 }),
-    )?;
-    show::applied(
-        rt,
-        lent::after_order(
-            b,
-            Order::Publish {
-                image: 6,
-                share: 101,
-            },
-        ),
-    )
+    let out = publish(9, 0);
+    let five = only(5, Stand::Offered(100));
+    let twice = beside(five, 5, Stand::Halted(100));
+    let six = beside(five, 6, Stand::Halted(100));
+    for b in [
+        counting(empty(), 17),
+        counting(empty(), 1),
+        only(0, Stand::Offered(0)),
+        only(0, Stand::Offered(101)),
+        only(0, Stand::Halted(101)),
+        counting(twice, 1),
+        twice,
+        six,
+    ] {
+        told(rt, b, out)?;
+    }
+    for order in [publish(9, 101), publish(9, 1), publish(6, 101)] {
+        told(rt, six, order)?;
+    }
+    Ok(())
 }

@@ -1,14 +1,13 @@
 -- The faults of a run of fields. Assumes nothing.
-use mathlib.Core.Path.{◌≡◌, refl, sym, ap, ◌∙◌}
+use mathlib.Core.Path.{◌≡◌, refl, sym, ◌∙◌}
 use mathlib.Core.Bool.{Bool, true, false, cond}
 use mathlib.Core.List.{List, [], ◌∷◌, ◌++◌}
 use Prim.Native.Nat.{ℕ}
 use native.Mathlib.Omega.{arith}
 use borrow.Author.Tests.{eq-eqb, ne_eqb, eqb-true, eqb-false}
 use lib.Dec.{eqb}
-use Rattle.std.specs.Prelude.{Result, Ok, Err}
 use Rattle.lists.specs.Tests.{first_of}
-use Rattle.fields.specs.Faults.{fault, verdict, first}
+use Rattle.fields.specs.Faults.{fault, first}
 use Rattle.fields.specs.declared.Fault.{Fault}
 use Rattle.fields.specs.declared.Fault.TheVariants.{CutShort, WrongTag, WrongLength, WrongValue, LeftOver}
 
@@ -21,21 +20,28 @@ fault_some WrongLength e = omega arith
 fault_some WrongValue e = omega arith
 fault_some LeftOver e = omega arith
 
--- ---- the first fault of a run of fields
+-- ---- the first fault of fields and more fields
 
-module _ (at : ℕ) (cs : List (ℕ × Bool)) (fs : List (ℕ × List (ℕ × Bool))) where
-  first_next : first_of cs ≡ 0 → first ((at, cs) ∷ fs) ≡ first fs
-  unfolding first
-  first_next e = rw (eq-eqb (first_of cs) 0 e)
+first_next : (at : ℕ) (cs : List (ℕ × Bool)) (fs : List (ℕ × List (ℕ × Bool))) → first_of cs ≡ 0 → first ((at, cs) ∷ fs) ≡ first fs
+unfolding first
+first_next at cs fs e = rw (eq-eqb (first_of cs) 0 e)
 
-  -- by a verdict on the first of them
-  module _ (v : Result (Unit {0}) Fault) (e : verdict v ≡ first_of cs) where
-    pub first_wrong : (f : Fault) → v ≡ Err f → (fault f, at) ≡ first ((at, cs) ∷ fs)
-    unfolding first
-    first_wrong f w = let n : fault f ≡ first_of cs = sym (ap verdict w) ∙ e in rw (← n, ne_eqb (fault f) 0 (fault_some f))
+first_more : (fs gs : List (ℕ × List (ℕ × Bool))) → first (fs ++ gs) ≡ cond (eqb (first fs).0 0) (first gs) (first fs)
+unfolding first
+first_more [] gs = refl
+first_more (f ∷ fs) gs = go (eqb (first_of f.1) 0) refl (first_more fs gs)
+  where
+    go : (b : Bool) → eqb (first_of f.1) 0 ≡ b → first (fs ++ gs) ≡ cond (eqb (first fs).0 0) (first gs) (first fs)
+        → first ((f ∷ fs) ++ gs) ≡ cond (eqb (first (f ∷ fs)).0 0) (first gs) (first (f ∷ fs))
+    go true q e = rw q e
+    go false q e = rw (q, q) refl
 
-    pub first_right : v ≡ Ok tt → first ((at, cs) ∷ fs) ≡ first fs
-    first_right r = first_next (sym e ∙ ap verdict r)
+module _ (fs gs : List (ℕ × List (ℕ × Bool))) where
+  pub found_before : (f : Fault) (at : ℕ) → (fault f, at) ≡ first fs → (fault f, at) ≡ first (fs ++ gs)
+  found_before f at e = e ∙ sym (first_more fs gs ∙ simp (← e, ne_eqb (fault f) 0 (fault_some f)))
+
+  pub none_before : (0, 0) ≡ first fs → first gs ≡ first (fs ++ gs)
+  none_before e = sym (first_more fs gs ∙ simp (← e))
 
 -- no field is at fault
 abbrev pub Clear : List (ℕ × List (ℕ × Bool)) → Type 0

@@ -1,5 +1,5 @@
 -- What a field that was looked at says of the bytes. Assumes nothing.
-use mathlib.Core.Path.{◌≡◌, refl, sym, ap, ◌∙◌}
+use mathlib.Core.Path.{◌≡◌, refl, sym, ◌∙◌}
 use mathlib.Core.Bool.{Bool}
 use mathlib.Core.List.{List}
 use Prim.Native.Nat.{ℕ, zero, suc, ◌+◌, ◌≤◌}
@@ -7,14 +7,10 @@ use native.Mathlib.Omega.{arith}
 use borrow.Author.Tests.{ltb-false, eqb-true, not-false}
 use lib.Dec.{eqb}
 use lib.ListN.{length, get_or, get_or-eq_default}
-use Rattle.std.specs.Prelude.{Result, Ok, Err}
 use Rattle.lists.specs.Bytes.{val_at}
 use Rattle.lists.specs.Tests.{first_of}
-use Rattle.lists.proofs.TestLaws.{none_pass, first_of_left, first_of_right}
+use Rattle.lists.proofs.TestLaws.{none_pass, first_of_right}
 use Rattle.fields.specs.Fields.{stated_at, head_checks, value_checks, checks}
-use Rattle.fields.specs.Faults.{verdict}
-use Rattle.fields.specs.declared.Fault.{Fault}
-use Rattle.fields.proofs.Checks.{fault_some}
 
 -- past the end all bytes count as 0
 pub val_past : (bs : List ℕ) (at k : ℕ) → length bs ≤ at → val_at bs at k ≡ 0
@@ -38,17 +34,8 @@ head_is bs at tag e =
       tagged = eqb-true (get_or bs at 0) tag (not-false (eqb (get_or bs at 0) tag) p.1.0);
     }
 
--- ---- what a reader that has judged the head, v, comes to after it
-
-module _ (bs : List ℕ) (at tag : ℕ) (v : Result (Unit {0}) Fault) (e : verdict v ≡ first_of (head_checks bs at tag)) where
-  pub head_right : v ≡ Ok tt → HeadIs bs at tag
-  head_right r = head_is bs at tag (sym e ∙ ap verdict r)
-
-  module _ (wrong_length wrong_value : Bool) where
-    pub at_head : (f : Fault) → v ≡ Err f → verdict v ≡ first_of (checks bs at tag wrong_length wrong_value)
-    at_head f w =
-        e ∙ sym (first_of_left (head_checks bs at tag) (value_checks wrong_length wrong_value) (λ z. fault_some f (sym (ap verdict w) ∙ e ∙ z)))
-
-    pub past_head : (n : ℕ) → v ≡ Ok tt → n ≡ first_of (value_checks wrong_length wrong_value) → n ≡ first_of (checks bs at tag wrong_length wrong_value)
-    past_head n r g =
-        g ∙ sym (first_of_right (head_checks bs at tag) (value_checks wrong_length wrong_value) refl (sym e ∙ ap verdict r))
+-- past a head with nothing wrong
+pub past_head : (bs : List ℕ) (at tag : ℕ) → 0 ≡ first_of (head_checks bs at tag) → (wrong_length wrong_value : Bool) (n : ℕ)
+    → n ≡ first_of (value_checks wrong_length wrong_value) → n ≡ first_of (checks bs at tag wrong_length wrong_value)
+past_head bs at tag e wrong_length wrong_value n g =
+    g ∙ sym (first_of_right (head_checks bs at tag) (value_checks wrong_length wrong_value) refl (sym e))

@@ -8,7 +8,6 @@ use native.Mathlib.Omega.{arith}
 use borrow.Author.Tests.{leb-true, le-leb, eqb-true, eq-eqb, not-false}
 use lib.Dec.{leb}
 use lib.ListN.{length, length-append}
-use Rattle.std.specs.Prelude.{Ok}
 use Rattle.lists.specs.Bytes.{be, val_at}
 use Rattle.lists.specs.Lists.{flat}
 use Rattle.lists.specs.Tests.{first_of}
@@ -109,7 +108,7 @@ module _ (bs pre post : List ℕ) (at : ℕ) (s : Slot) (x : ℕ) (g : Good s) (
       let stated : stated_at bs at ≡ s.width = stated_there bs pre post value at s.tag e l g.byte short ∙ length_be s.width x in
       let none : 0 ≡ first_of (value_checks (wrong_length bs at s) (wrong_number bs at s)) =
       simp (eq-eqb _ _ stated, number_there, le-leb _ _ low, le-leb _ _ high) in
-      sym (past_head bs at s.tag (Ok tt) (sym (head_there bs pre post value at s.tag e l g.byte short)) (wrong_length bs at s) (wrong_number bs at s) 0 refl none)
+      sym (past_head bs at s.tag (sym (head_there bs pre post value at s.tag e l g.byte short)) (wrong_length bs at s) (wrong_number bs at s) 0 none)
 
 pub slots_there : (bs pre post : List ℕ) (at : ℕ) (ss : List Slot) (xs : List ℕ) → AllGood ss → Within ss xs → bs ≡ pre ++ (flat (filled ss xs) ++ post) → length pre ≡ at
     → Clear (slot_fields bs at ss) × (numbers_at bs at ss ≡ xs)

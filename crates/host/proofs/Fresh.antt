@@ -18,14 +18,17 @@ use Rattle.network.specs.Network as net
 use Rattle.network.specs.declared.Link.{Link}
 use Rattle.network.specs.declared.Plan.{Plan}
 use Rattle.network.specs.declared.Bounds.{Bounds}
-use Rattle.network.specs.declared.Planned.{Planned}
-use Rattle.network.specs.declared.Planned.TheVariants.{Accepted}
+use Rattle.network.specs.declared.PlanRefusal.{PlanRefusal}
+use Rattle.network.specs.declared.PlanRefusal.TheVariants.{OutOfRange, BadLink, Parted}
+use Rattle.std.specs.Prelude.{Result, Ok, Err}
 use Rattle.network.proofs.Answers.{fine}
 use Rattle.network.proofs.Limits.{d_low, d_high}
 use Rattle.host.specs.declared.Host.{Host}
+use Rattle.host.specs.declared.Refusal.{Refusal}
+use Rattle.host.proofs.Numbers.{kept}
 use Rattle.host.specs.State.{is_no_link, links_of, sound, Sized}
-use Rattle.host.specs.Answers.{unless}
-use Rattle.host.specs.Make.{make_tests, make_refusal, cleared, fresh, no_host, make_host}
+use Rattle.host.specs.Answers.{number, of_plan, refusal_of, unless}
+use Rattle.host.specs.Make.{made, make_tests, make_refusal, cleared, fresh, no_host, make_host}
 use Rattle.host.proofs.Facts.{SoundIs, is_sound}
 
 planned_refusal : (p : Plan) → (net.planned p).refusal ≡ net.plan_refusal p
@@ -35,11 +38,11 @@ planned_refusal p = go (eqb (net.plan_refusal p) 0) refl
     go true e = sym (eqb-true (net.plan_refusal p) 0 e)
     go false e = refl
 
-pub plan_refusal_lem : (p : Plan) (a : Planned) → net.says a ≡ net.planned p → net.plan_refusal p ≡ (net.says a).refusal
+pub plan_refusal_lem : (p : Plan) (a : Result Bounds PlanRefusal) → net.says a ≡ net.planned p → net.plan_refusal p ≡ (net.says a).refusal
 plan_refusal_lem p a e = sym (planned_refusal p) ∙ sym (ap (λ (s : net.Said). s.refusal) e)
 
-pub plan_bounds : (p : Plan) (b : Bounds) → net.says (Accepted b) ≡ net.planned p → b ≡ net.bounds p (net.worst p)
-plan_bounds p b e = ap (λ (s : net.Said). s.bounds) (e ∙ ap (λ (k : ℕ). cond (eqb k 0) (record { refusal = 0; bounds = net.bounds p (net.worst p) }) (net.refused k)) (plan_refusal_lem p (Accepted b) e))
+pub plan_bounds : (p : Plan) (b : Bounds) → net.says (Ok b) ≡ net.planned p → b ≡ net.bounds p (net.worst p)
+plan_bounds p b e = ap (λ (s : net.Said). s.bounds) (e ∙ ap (λ (k : ℕ). cond (eqb k 0) (record { refusal = 0; bounds = net.bounds p (net.worst p) }) (net.refused k)) (plan_refusal_lem p (Ok b) e))
 
 -- planning's refusal is the making's; where there is none, 23 and 15 are asked
 pub make_refusal_lem : (p : Plan) (rules own k : ℕ) → net.plan_refusal p ≡ k
@@ -48,6 +51,19 @@ unfolding make_tests net.plan_tests
 make_refusal_lem p rules own k e =
     first_join (net.plan_tests p) ((23, not (is_rules rules)) ∷ (15, leb (net.n p) own) ∷ []) refl
     ∙ ap (λ (j : ℕ). cond (eqb j 0) (first_of ((23, not (is_rules rules)) ∷ (15, leb (net.n p) own) ∷ [])) j) e
+
+pub plan_first : (p : Plan) (rules own : ℕ) (q : PlanRefusal) → net.says (Err q) ≡ net.planned p → number (of_plan q) ≡ make_refusal p rules own
+plan_first p rules own q e = sym (make_refusal_lem p rules own (net.number q) (plan_refusal_lem p (Err q) e) ∙ go q)
+  where
+    go : (q : PlanRefusal) → cond (eqb (net.number q) 0) (first_of ((23, not (is_rules rules)) ∷ (15, leb (net.n p) own) ∷ [])) (net.number q) ≡ number (of_plan q)
+    go OutOfRange = refl
+    go BadLink = refl
+    go Parted = refl
+
+-- what a refused making says
+pub refused_making : (p : Plan) (rules own : ℕ) (r : Refusal) (a : Result Host Refusal) → a ≡ Err r → number r ≡ make_refusal p rules own
+    → record { host_value : made a ≡ make_host p rules own; answer_value : refusal_of a ≡ make_refusal p rules own }
+refused_making p rules own r a e n = record { host_value = ap made e ∙ kept r _ _ no_host n; answer_value = ap refusal_of e ∙ n }
 
 -- each rule set's Δ
 pub bound_rules : (p : Plan) (d rules : ℕ) → cond (eqb rules 1) (net.bound 1 p d) (net.bound 2 p d) ≡ net.bound rules p d

@@ -5,12 +5,15 @@ pub mod Blanks
 pub mod Slides
 pub mod Inserts
 pub mod Facts
+pub mod Lists
 pub mod Answered
 pub mod Writes
 pub mod Fresh
 pub mod Names
 pub mod Fronts
 pub mod Keeps
+pub mod Owns
+pub mod Sounds
 pub mod Outcomes
 pub mod Refusals
 pub mod AsPublished

@@ -1,5 +1,6 @@
 -- The promise of each public function admits one result only: the answer, the state that is left, and of a tick the lent list. Assumes nothing.
-use mathlib.Core.Path.{◌≡◌, ap₂}
+use mathlib.Core.Path.{◌≡◌, sym, ap₂, ◌∙◌}
+use Rattle.std.specs.Prelude.{Result}
 use mathlib.Core.Bool.{Bool}
 use mathlib.Core.List.{List}
 use Prim.Native.Nat.{ℕ, ◌+◌, ◌-◌}
@@ -9,25 +10,23 @@ use Rattle.lists.proofs.One.{one_result, one_answer, one_call}
 use Rattle.clock.specs.declared.Reading.{Reading}
 use Rattle.orders.specs.declared.Order.{Order}
 use Rattle.network.specs.declared.Plan.{Plan}
+use Rattle.network.specs.declared.PlanRefusal.{PlanRefusal}
 use Rattle.host.specs.declared.Frame.{Frame}
 use Rattle.host.specs.declared.Held.{Held}
 use Rattle.host.specs.declared.Host.{Host}
 use Rattle.host.specs.declared.Seen.{Seen}
-use Rattle.host.specs.declared.Made.{Made}
+use Rattle.host.specs.declared.Sent.{Sent}
 use Rattle.host.specs.declared.Acted.{Acted}
 use Rattle.host.specs.declared.Ticked.{Ticked}
 use Rattle.host.specs.declared.Refusal.{Refusal}
-use Rattle.host.specs.declared.Verdict.{Verdict}
-use Rattle.host.specs.declared.SendAnswer.{SendAnswer}
-use Rattle.host.specs.declared.TickAnswer.{TickAnswer}
 use Rattle.host.specs.State.{no_reading, bare, framed, sound}
 use Rattle.host.specs.Entries.{entry_of}
-use Rattle.host.specs.Answers.{number, refusal_of, says, says_tick}
-use Rattle.host.specs.Make.{make_refusal, make_host}
+use Rattle.host.specs.Answers.{number, of_plan, refusal_of, says, says_tick}
+use Rattle.host.specs.Make.{made, make_refusal, make_host}
 use Rattle.host.specs.Start.{with_start, start_answer, start_says, start_host}
 use Rattle.host.specs.Receive.{receive_answer, receive_says, receive_host}
 use Rattle.host.specs.Tick.{tick_answer, tick_says, tick_host, tick_list}
-use Rattle.host.proofs.Numbers.{verdict_by, verdict_back, send_by, send_back, tick_by, tick_back}
+use Rattle.host.proofs.Numbers.{made_by, made_back, send_by, send_back, tick_by, tick_back}
 
 pub is_sound_one : (h : Host) (r s : Bool) → r ≡ sound h → s ≡ sound h → r ≡ s
 is_sound_one h r s = one_result
@@ -50,40 +49,42 @@ entry_one e r s = one_result
 pub number_of_one : (r : Refusal) (m n : ℕ) → m ≡ number r → n ≡ number r → m ≡ n
 number_of_one r m n = one_result
 
-pub make_one : (p : Plan) (rules own : ℕ) (r s : Made)
-    → (r.host ≡ make_host p rules own) × (refusal_of r.answer ≡ make_refusal p rules own)
-    → (s.host ≡ make_host p rules own) × (refusal_of s.answer ≡ make_refusal p rules own) → r ≡ s
+pub refusal_from_plan_one : (q : PlanRefusal) (r s : Refusal) → r ≡ of_plan q → s ≡ of_plan q → r ≡ s
+refusal_from_plan_one q r s = one_result
+
+pub make_one : (p : Plan) (rules own : ℕ) (r s : Result Host Refusal)
+    → (made r ≡ make_host p rules own) × (refusal_of r ≡ make_refusal p rules own)
+    → (made s ≡ make_host p rules own) × (refusal_of s ≡ make_refusal p rules own) → r ≡ s
 make_one p rules own r s x y =
-    let e = one_call refusal_of verdict_by verdict_back r.host s.host r.answer s.answer x y in
-    ap₂ (λ (h : Host) (a : Verdict). record { host = h; answer = a }) e.0 e.1
+    sym (made_back r) ∙ ap₂ made_by (x.1 ∙ sym y.1) (x.0 ∙ sym y.0) ∙ made_back s
 
 -- ---- the answers by a frame
 
-pub start_answer_one : (f : Frame) (u : ℕ) (o : Order) (r s : SendAnswer) → says r ≡ start_answer (bare f) u o → says s ≡ start_answer (bare f) u o → r ≡ s
+pub start_answer_one : (f : Frame) (u : ℕ) (o : Order) (r s : Result Sent Refusal) → says r ≡ start_answer (bare f) u o → says s ≡ start_answer (bare f) u o → r ≡ s
 start_answer_one f u o = one_answer says send_by send_back
 
-pub receive_answer_one : (f : Frame) (u arrival hop : ℕ) (x : Held) (seen : Seen) (r s : SendAnswer)
+pub receive_answer_one : (f : Frame) (u arrival hop : ℕ) (x : Held) (seen : Seen) (r s : Result Sent Refusal)
     → says r ≡ receive_answer (bare f) u arrival hop x seen.same seen.other seen.named
     → says s ≡ receive_answer (bare f) u arrival hop x seen.same seen.other seen.named → r ≡ s
 receive_answer_one f u arrival hop x seen = one_answer says send_by send_back
 
-pub tick_answer_one : (f : Frame) (u room count : ℕ) (r s : TickAnswer) → says_tick r ≡ tick_answer (bare f) u room count → says_tick s ≡ tick_answer (bare f) u room count → r ≡ s
+pub tick_answer_one : (f : Frame) (u room count : ℕ) (r s : Result ℕ Refusal) → says_tick r ≡ tick_answer (bare f) u room count → says_tick s ≡ tick_answer (bare f) u room count → r ≡ s
 tick_answer_one f u room count = one_answer says_tick tick_by tick_back
 
 -- ---- over a lent state, g and k at exit
 
-pub start_one_lem : (h : Host) (u : Reading) (o : Order) (g k : Host) (r s : SendAnswer)
+pub start_one_lem : (h : Host) (u : Reading) (o : Order) (g k : Host) (r s : Result Sent Refusal)
     → (g ≡ start_host h u o) × (says r ≡ start_says h u.0 o)
     → (k ≡ start_host h u o) × (says s ≡ start_says h u.0 o) → (g ≡ k) × (r ≡ s)
 start_one_lem h u o = one_call says send_by send_back
 
-pub receive_one : (h : Host) (u : Reading) (arrival hop : ℕ) (x : Held) (g k : Host) (r s : SendAnswer)
+pub receive_one : (h : Host) (u : Reading) (arrival hop : ℕ) (x : Held) (g k : Host) (r s : Result Sent Refusal)
     → (g ≡ receive_host h u arrival hop x) × (says r ≡ receive_says h u.0 arrival hop x)
     → (k ≡ receive_host h u arrival hop x) × (says s ≡ receive_says h u.0 arrival hop x) → (g ≡ k) × (r ≡ s)
 receive_one h u arrival hop x = one_call says send_by send_back
 
 -- the lent list at exit is l and m
-pub tick_one_lem : (h : Host) (u : Reading) (out : List ℕ) (g k : Host) (r s : TickAnswer) (l m : List ℕ)
+pub tick_one_lem : (h : Host) (u : Reading) (out : List ℕ) (g k : Host) (r s : Result ℕ Refusal) (l m : List ℕ)
     → (g ≡ tick_host h u (length out)) × ((says_tick r ≡ tick_says h u.0 (length out)) × (l ≡ tick_list h u.0 out))
     → (k ≡ tick_host h u (length out)) × ((says_tick s ≡ tick_says h u.0 (length out)) × (m ≡ tick_list h u.0 out)) → ((g ≡ k) × (r ≡ s)) × (l ≡ m)
 tick_one_lem h u out g k r s l m x y = (one_call says_tick tick_by tick_back g k r s (x.0, x.1.0) (y.0, y.1.0), one_result x.1.1 y.1.1)
@@ -91,7 +92,7 @@ tick_one_lem h u out g k r s l m x y = (one_call says_tick tick_by tick_back g k
 -- ---- by value
 
 acted : {r s : Acted} → (r.host ≡ s.host) × (r.answer ≡ s.answer) → r ≡ s
-acted e = ap₂ (λ (g : Host) (a : SendAnswer). record { host = g; answer = a }) e.0 e.1
+acted e = ap₂ (λ (g : Host) (a : Result Sent Refusal). record { host = g; answer = a }) e.0 e.1
 
 pub after_start_one : (h : Host) (u : Reading) (o : Order) (r s : Acted)
     → (r.host ≡ start_host h u o) × (says r.answer ≡ start_says h u.0 o)
@@ -108,4 +109,4 @@ pub after_tick_one : (h : Host) (u : Reading) (out : List ℕ) (r s : Ticked) (l
     → (s.host ≡ tick_host h u (length out)) × ((says_tick s.answer ≡ tick_says h u.0 (length out)) × (m ≡ tick_list h u.0 out)) → (r ≡ s) × (l ≡ m)
 after_tick_one h u out r s l m x y =
     let e = tick_one_lem h u out r.host s.host r.answer s.answer l m x y in
-    (ap₂ (λ (g : Host) (a : TickAnswer). record { host = g; answer = a }) e.0.0 e.0.1, e.1)
+    (ap₂ (λ (g : Host) (a : Result ℕ Refusal). record { host = g; answer = a }) e.0.0 e.0.1, e.1)

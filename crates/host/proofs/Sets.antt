@@ -8,6 +8,7 @@ use native.Mathlib.Omega.{arith}
 use borrow.Author.Tests.{ne_eqb, le-leb, leb-true, lt-ltb, le-ltb, ltb-true, ltb-false}
 use lib.Dec.{leb, ltb, eqb}
 use lib.Pow.{pow_mono}
+use Rattle.std.specs.Int.{from_bool}
 use Rattle.network.specs.Network.{m, has}
 use Rattle.network.specs.declared.Plan.{Plan}
 use Rattle.network.proofs.Bits.{has_none}
@@ -19,6 +20,10 @@ unfolding set_of
 set_same zero f g e = refl
 set_same (suc k) f g e =
     ap₂ (λ (t : Bool) (s : ℕ). cond t 1 0 + 2 * s) (e 0 (suc-le-suc zero-le)) (set_same k (λ i. f (suc i)) (λ i. g (suc i)) (λ i h. e (suc i) (suc-le-suc h)))
+
+pub bit_is : (t : Bool) → from_bool t ≡ cond t 1 0
+bit_is true = refl
+bit_is false = refl
 
 pub bit_most : (t : Bool) → cond t 1 0 ≤ 1
 bit_most true = omega arith

@@ -1,11 +1,12 @@
 -- Making a host: "making a host 1, 2, 3, 23, 15"; "Making a host takes Δ from planning" (01, "Refusal numbers"). Assumes nothing.
-use Rattle.std.specs.Prelude.{Bool, not, List, [], ◌∷◌, ◌++◌, ℕ, leb}
+use Rattle.std.specs.Prelude.{Bool, not, List, [], ◌∷◌, ◌++◌, ℕ, leb, Result, Ok, Err}
 use Rattle.lists.specs.Tests.{first_of}
 use Rattle.lists.specs.Lists.{pad}
 use Rattle.orders.specs.Rules.{is_rules}
 use Rattle.network.specs.Network.{no_link, n, m, π, L, δ, ε, worst, bound, plan_tests}
 use Rattle.network.specs.declared.Plan.{Plan}
 use Rattle.host.specs.declared.Host.{Host}
+use Rattle.host.specs.declared.Refusal.{Refusal}
 use Rattle.host.specs.State.{no_reading, no_held, links_of}
 use Rattle.host.specs.Answers.{unless}
 
@@ -53,6 +54,11 @@ no_plan = record { hosts = 0; faulty_hosts = 0; link_count = 0; faulty_links = 0
 
 abbrev pub no_host : Host
 no_host = unstarted no_plan 0 0 0 0
+
+-- the host that was made, or the zero state
+abbrev pub made : Result Host Refusal → Host
+made (Ok h) = h
+made (Err r) = no_host
 
 abbrev pub make_host : Plan → ℕ → ℕ → Host
 make_host p rules own = unless (make_refusal p rules own) (fresh p rules own) no_host

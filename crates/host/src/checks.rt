@@ -1,48 +1,69 @@
-// An order of checks: the first test that passes gives the refusal, which has its number.
-ghost use Rattle.std.specs.Prelude.{◌≡◌};
-ghost use Rattle.host.specs.Answers.{number, refusal_of};
-ghost use Rattle.lists.specs.Tests.{or_if};
+// A refusal: where one is given, and its number.
+ghost use Rattle.std.specs.Prelude.{◌≡◌, cond, Some};
+ghost use Rattle.host.specs.Answers.{number, of_plan, words};
 
-use crate::{Refusal, Verdict};
+use crate::Refusal;
+use network::PlanRefusal;
+use std::fmt;
 
-// The verdict so far, or where that is clear the refusal of a test that passes.
-pub(crate) fn or_if(found: Verdict, test: bool, refusal: Refusal) -> Verdict
-    ensures { refusal_of result ≡ or_if (refusal_of found) (number refusal) test }
+// One check of an order of checks: the first test that passes gives its refusal.
+pub(crate) fn refuse_if(test: bool, refusal: Refusal) -> Result<(), Refusal>
+    ensures { result ≡ cond test (Err refusal) (Ok tt) }
 {
-    match found {
-        Verdict::Refused(before) => Verdict::Refused(before),
-        Verdict::Clear => {
-            if test {
-                Verdict::Refused(refusal)
-            } else {
-                Verdict::Clear
-            }
-        }
-    }
+    if test { Err(refusal) } else { Ok(()) }
 }
 
 // The build paper's number of a refusal.
 pub fn number_of(refusal: Refusal) -> u8
     ensures { result ≡ number refusal }
 {
-    match refusal {
-        Refusal::OutOfRange => 1,
-        Refusal::BadLink => 2,
-        Refusal::Parted => 3,
-        Refusal::Unsound => 9,
-        Refusal::BadReading => 10,
-        Refusal::Behind => 11,
-        Refusal::SameStart => 12,
-        Refusal::WindowFull => 13,
-        Refusal::HistoryFull => 14,
-        Refusal::NotInPlan => 15,
-        Refusal::Early => 16,
-        Refusal::Late => 17,
-        Refusal::Past => 18,
-        Refusal::Known => 19,
-        Refusal::OtherHeld => 20,
-        Refusal::OwnNotHeld => 21,
-        Refusal::ShortBuffer => 22,
-        Refusal::BadValue => 23,
+    refusal as u8
+}
+
+impl From<Refusal> for u8 {
+    ghost from_gives = { λ refusal n. n ≡ number refusal };
+
+    fn from(refusal: Refusal) -> u8 {
+        number_of(refusal)
+    }
+}
+
+// Planning's refusals come first, as a making's.
+impl From<PlanRefusal> for Refusal {
+    ghost from_gives = { λ plan refusal. refusal ≡ of_plan plan };
+
+    fn from(plan: PlanRefusal) -> Refusal {
+        match plan {
+            PlanRefusal::OutOfRange => Refusal::OutOfRange,
+            PlanRefusal::BadLink => Refusal::BadLink,
+            PlanRefusal::Parted => Refusal::Parted,
+        }
+    }
+}
+
+impl fmt::Display for Refusal {
+    ghost output = { λ refusal. Some (words refusal) };
+
+    fn fmt<W: fmt::Write>(&self, f: &mut fmt::Formatter<W>) -> fmt::Result {
+        match self {
+            Refusal::OutOfRange => write!(f, "plan number out of range"),
+            Refusal::BadLink => write!(f, "plan link of no two hosts, or twice"),
+            Refusal::Parted => write!(f, "plan parted by a fault set"),
+            Refusal::Unsound => write!(f, "state not sound"),
+            Refusal::BadReading => write!(f, "reading out of range"),
+            Refusal::Behind => write!(f, "reading less than the last"),
+            Refusal::SameStart => write!(f, "start at the reading of the last start"),
+            Refusal::WindowFull => write!(f, "fourth last start within the window"),
+            Refusal::HistoryFull => write!(f, "32 orders held"),
+            Refusal::NotInPlan => write!(f, "host, link or source not in the plan"),
+            Refusal::Early => write!(f, "copy too early for its hop"),
+            Refusal::Late => write!(f, "copy too late for its hop"),
+            Refusal::Past => write!(f, "copy past its bound"),
+            Refusal::Known => write!(f, "same order held under the name"),
+            Refusal::OtherHeld => write!(f, "other order held under the name"),
+            Refusal::OwnNotHeld => write!(f, "own order not held"),
+            Refusal::ShortBuffer => write!(f, "lent buffer too short"),
+            Refusal::BadValue => write!(f, "rule set, stamp, hop or share out of range"),
+        }
     }
 }

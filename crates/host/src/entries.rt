@@ -12,10 +12,9 @@ pub(crate) fn put_entry(out: &mut [u8], at: usize, e: Held)
     ensures { out.new ≡ paste out.old at (entry_of e) 16 }
 {
     let bytes = entry(e);
-    let mut j = 0;
-    while j < 16 {
+    // copy_from_slice was tried, and is slower.
+    for j in 0..16 {
         out[at + j] = bytes[j];
-        j += 1;
     }
 }
 
@@ -24,32 +23,23 @@ pub fn entry(e: Held) -> [u8; 16]
     ensures { result ≡ entry_of e }
 {
     let order = e.order;
-    let of = image(order);
-    let s1 = e.stamp.0 / 256;
-    let s2 = s1 / 256;
-    let s3 = s2 / 256;
-    let s4 = s3 / 256;
-    let s5 = s4 / 256;
-    let s6 = s5 / 256;
-    let s7 = s6 / 256;
-    let i1 = of / 256;
-    let i2 = i1 / 256;
-    let i3 = i2 / 256;
+    let t = e.stamp.0.to_be_bytes();
+    let of = image(order).to_be_bytes();
     [
-        (s7 % 256) as u8,
-        (s6 % 256) as u8,
-        (s5 % 256) as u8,
-        (s4 % 256) as u8,
-        (s3 % 256) as u8,
-        (s2 % 256) as u8,
-        (s1 % 256) as u8,
-        (e.stamp.0 % 256) as u8,
+        t[0],
+        t[1],
+        t[2],
+        t[3],
+        t[4],
+        t[5],
+        t[6],
+        t[7],
         e.source,
         kind(order),
-        (i3 % 256) as u8,
-        (i2 % 256) as u8,
-        (i1 % 256) as u8,
-        (of % 256) as u8,
+        of[0],
+        of[1],
+        of[2],
+        of[3],
         share(order),
         0,
     ]

@@ -12,8 +12,10 @@ mod sound;
 mod starting;
 mod starts;
 mod states;
+mod stored;
 mod ticking;
 mod unused;
+mod walks;
 
 pub use checks::number_of;
 use clock::Reading;
@@ -26,7 +28,9 @@ pub use receiving::{after_receive, receive_answer};
 pub use sound::{is_framed, is_sound};
 pub use starting::{after_start, start_answer};
 pub use starts::{newest, one_more, with_start};
+pub use stored::Stored;
 pub use ticking::{after_tick, tick_answer};
+pub use walks::{due_in_front, is_sound_in, look};
 
 // An order under its name, which is its stamp and its source.
 #[derive(Clone, Copy)]
@@ -73,64 +77,46 @@ pub struct Seen {
     pub named: bool,
 }
 
-// Why a call was refused.
-#[derive(Clone, Copy)]
+// Why a call was refused, under the build paper's number.
+#[derive(Clone, Copy, Debug, PartialEq, Eq)]
 pub enum Refusal {
-    OutOfRange, // 1: a plan number is out of range
-    BadLink, // 2: a link end is n or more, a ≥ b, or a pair repeats
-    Parted, // 3: some fault set leaves survivors not connected
-    Unsound, // 9: the lent state is not sound
-    BadReading, // 10: U is out of range, or on a start above the largest stamp
-    Behind, // 11: U is less than the last reading
-    SameStart, // 12: a start at the reading of the last start
-    WindowFull, // 13: the fourth last start lies less than W back
-    HistoryFull, // 14: 32 orders are held
-    NotInPlan, // 15: a host, own link or source that the plan lacks
-    Early, // 16: second rules, U + hε ≤ T
-    Late, // 17: second rules, U ≥ T + h(δ+ε)
-    Past, // 18: U ≥ T + Δ
-    Known, // 19: the same order is held under (T, source)
-    OtherHeld, // 20: another order is held under (T, source)
-    OwnNotHeld, // 21: the source is this host, and (T, source) is not held
-    ShortBuffer, // 22: the lent buffer is too short for all that is due
-    BadValue, // 23: a rule set other than 1 or 2, a stamp, hop or share out of range
+    OutOfRange = 1, // a plan number is out of range
+    BadLink = 2, // a link end is n or more, a ≥ b, or a pair repeats
+    Parted = 3, // some fault set leaves survivors not connected
+    Unsound = 9, // the lent state is not sound
+    BadReading = 10, // U is out of range, or on a start above the largest stamp
+    Behind = 11, // U is less than the last reading
+    SameStart = 12, // a start at the reading of the last start
+    WindowFull = 13, // the fourth last start lies less than W back
+    HistoryFull = 14, // 32 orders are held
+    NotInPlan = 15, // a host, own link or source that the plan lacks
+    Early = 16, // second rules, U + hε ≤ T
+    Late = 17, // second rules, U ≥ T + h(δ+ε)
+    Past = 18, // U ≥ T + Δ
+    Known = 19, // the same order is held under (T, source)
+    OtherHeld = 20, // another order is held under (T, source)
+    OwnNotHeld = 21, // the source is this host, and (T, source) is not held
+    ShortBuffer = 22, // the lent buffer is too short for all that is due
+    BadValue = 23, // a rule set other than 1 or 2, a stamp, hop or share out of range
 }
 
-// Whether a call was refused; the answer to a making.
-#[derive(Clone, Copy)]
-pub enum Verdict {
-    Clear,
-    Refused(Refusal),
+// What an accepted start or copy is sent on: the links, bit i for link i of the plan, and the hop to send.
+#[derive(Clone, Copy, Debug, PartialEq, Eq)]
+pub struct Sent {
+    pub links: u16,
+    pub hop: u8,
 }
 
-// The answer to a start or a received copy: the links to send it on, bit i for link i of the plan, and the hop to send.
-#[derive(Clone, Copy)]
-pub enum SendAnswer {
-    Sent { links: u16, hop: u8 },
-    Refused(Refusal),
-}
-
-// The answer to a tick: how many entries were written.
-#[derive(Clone, Copy)]
-pub enum TickAnswer {
-    Delivered(usize),
-    Refused(Refusal),
-}
-
-#[derive(Clone, Copy)]
-pub struct Made {
-    pub host: Host,
-    pub answer: Verdict,
-}
-
+// The state that a start or a received copy leaves, and what it is answered.
 #[derive(Clone, Copy)]
 pub struct Acted {
     pub host: Host,
-    pub answer: SendAnswer,
+    pub answer: Result<Sent, Refusal>,
 }
 
+// The state that a tick leaves, and how many entries it wrote.
 #[derive(Clone, Copy)]
 pub struct Ticked {
     pub host: Host,
-    pub answer: TickAnswer,
+    pub answer: Result<usize, Refusal>,
 }

@@ -1,66 +1,27 @@
 // Make a host.
 ghost use Rattle.std.specs.Prelude.{◌≡◌, cond, ◌≤◌, eqb, take};
 ghost use Rattle.lists.specs.Lists.{pad};
-ghost use Rattle.network.specs.Network.{no_link, m, worst, bounds, plan_refusal};
-ghost use Rattle.host.specs.Answers.{number, refusal_of};
-ghost use Rattle.host.specs.Make.{unstarted, cleared, no_host, make_refusal, make_host};
+ghost use Rattle.network.specs.Network.{no_link, m};
+ghost use Rattle.host.specs.Answers.{refusal_of};
+ghost use Rattle.host.specs.Make.{unstarted, cleared, made, make_refusal, make_host};
 
+use crate::checks::refuse_if;
 use crate::unused::no_held;
-use crate::{Host, Made, Refusal, Verdict};
+use crate::{Host, Refusal};
 use clock::Reading;
 use network::planning::plan as planned;
-use network::{Bounds, Link, Plan, Planned};
+use network::{Bounds, Link, NO_LINK, Plan};
 use orders::is_rules;
 
-// A fresh host of the plan; or the zero state.
-pub fn make(plan: Plan, rules: u8, own: u8) -> Made
-    ensures host_value { result.host ≡ make_host plan rules own }
-    ensures answer_value { refusal_of result.answer ≡ make_refusal plan rules own }
+// A fresh host of the plan.
+pub fn make(plan: Plan, rules: u8, own: u8) -> Result<Host, Refusal>
+    ensures host_value { made result ≡ make_host plan rules own }
+    ensures answer_value { refusal_of result ≡ make_refusal plan rules own }
 {
-    let found = planned(plan);
-    match found {
-        Planned::OutOfRange => refused(Refusal::OutOfRange),
-        Planned::BadLink => refused(Refusal::BadLink),
-        Planned::Parted => refused(Refusal::Parted),
-        Planned::Accepted(b) => make_planned(plan, rules, own, b),
-    }
-}
-
-fn make_planned(plan: Plan, rules: u8, own: u8, b: Bounds) -> Made
-    requires { (plan_refusal plan ≡ 0) × (b ≡ bounds plan (worst plan)) }
-    ensures host_value { result.host ≡ make_host plan rules own }
-    ensures answer_value { refusal_of result.answer ≡ make_refusal plan rules own }
-{
-    if !is_rules(rules) {
-        return refused(Refusal::BadValue);
-    }
-    if own >= plan.hosts {
-        return refused(Refusal::NotInPlan);
-    }
-    Made {
-        host: no_starts(clear(plan), rules, b.d, bound_of(rules, b), own),
-        answer: Verdict::Clear,
-    }
-}
-
-fn refused(refusal: Refusal) -> Made
-    ensures host_value { result.host ≡ no_host }
-    ensures answer_value { refusal_of result.answer ≡ number refusal }
-{
-    let none = Link { a: 0, b: 0 };
-    let plan = Plan {
-        hosts: 0,
-        faulty_hosts: 0,
-        link_count: 0,
-        faulty_links: 0,
-        delay: 0,
-        skew: 0,
-        links: [none; 12],
-    };
-    Made {
-        host: no_starts(plan, 0, 0, 0, 0),
-        answer: Verdict::Refused(refusal),
-    }
+    let bounds = planned(plan)?;
+    refuse_if(!is_rules(rules), Refusal::BadValue)?;
+    refuse_if(own >= plan.hosts, Refusal::NotInPlan)?;
+    Ok(no_starts(clear(plan), rules, bounds.d, bound_of(rules, bounds), own))
 }
 
 fn no_starts(plan: Plan, rules: u8, d: u8, bound: u64, own: u8) -> Host
@@ -98,13 +59,8 @@ fn clear(plan: Plan) -> Plan
 {
     let links = plan.links;
     Plan {
-        hosts: plan.hosts,
-        faulty_hosts: plan.faulty_hosts,
-        link_count: plan.link_count,
-        faulty_links: plan.faulty_links,
-        delay: plan.delay,
-        skew: plan.skew,
         links: first_links(links, plan.link_count as usize),
+        ..plan
     }
 }
 
@@ -112,12 +68,7 @@ fn first_links(links: [Link; 12], count: usize) -> [Link; 12]
     requires { count ≤ 12 }
     ensures { result ≡ pad 12 no_link (take count links) }
 {
-    let none = Link { a: 0, b: 0 };
-    let mut used = [none; 12];
-    let mut i = 0;
-    while i < count {
-        used[i] = links[i];
-        i += 1;
-    }
+    let mut used = [NO_LINK; 12];
+    used[..count].copy_from_slice(&links[..count]);
     used
 }

@@ -6,12 +6,13 @@ ghost use Rattle.host.specs.Answers.{refusal_of, says};
 ghost use Rattle.host.specs.OwnLinks.{set_of, placed, ends_but};
 ghost use Rattle.host.specs.Receive.{in_plan, copy_fits, early, late, receive_checks, receive_refusal, relay_hop, receive_answer, receive_says, receive_host};
 
-use crate::checks::or_if;
-use crate::history::{is_due, look, with_held};
+use crate::checks::refuse_if;
+use crate::history::{is_due, with_held};
 use crate::links::{is_end, links_but};
 use crate::sound::{frame_of, is_sound};
 use crate::states::at_reading;
-use crate::{Acted, Frame, Held, Host, Refusal, Seen, SendAnswer, Verdict};
+use crate::walks::look;
+use crate::{Acted, Frame, Held, Host, Refusal, Seen, Sent};
 use clock::{Reading, is_reading, is_stamp, reached};
 use network::Plan;
 use orders::{hop_fits, share_fits};
@@ -23,20 +24,17 @@ pub fn after_receive(host: Host, u: Reading, arrival: u8, hop: u8, copy: Held) -
     if !is_sound(host) {
         return Acted {
             host,
-            answer: SendAnswer::Refused(Refusal::Unsound),
+            answer: Err(Refusal::Unsound),
         };
     }
-    let history = host.history;
-    let seen = look(history, host.held, copy);
+    let held = &host.history[..host.held];
+    let seen = look(held, copy);
     let answer = receive_answer(frame_of(host), u, arrival, hop, copy, seen);
     match answer {
-        SendAnswer::Refused(refusal) => Acted {
-            host,
-            answer: SendAnswer::Refused(refusal),
-        },
-        SendAnswer::Sent { links, hop: next } => Acted {
+        Err(_) => Acted { host, answer },
+        Ok(_) => Acted {
             host: receive_held(host, u, arrival, hop, copy),
-            answer: SendAnswer::Sent { links, hop: next },
+            answer,
         },
     }
 }
@@ -49,45 +47,45 @@ pub fn receive_answer(
     hop: u8,
     copy: Held,
     seen: Seen,
-) -> SendAnswer
+) -> Result<Sent, Refusal>
     ensures { says result ≡ receive_answer (bare frame) u.0 arrival hop copy seen.same seen.other seen.named }
 {
+    receive_checks(frame, u, arrival, hop, copy, seen)?;
     let plan = frame.plan;
-    let found = receive_checks(frame, u, arrival, hop, copy, seen);
-    match found {
-        Verdict::Refused(refusal) => SendAnswer::Refused(refusal),
-        Verdict::Clear => SendAnswer::Sent {
-            links: relay_links(plan, frame.own, arrival, hop),
-            hop: relay_hop(frame.rules, hop),
-        },
-    }
+    Ok(Sent {
+        links: relay_links(plan, frame.own, arrival, hop),
+        hop: relay_hop(frame.rules, hop),
+    })
 }
 
-fn receive_checks(frame: Frame, u: Reading, arrival: u8, hop: u8, copy: Held, seen: Seen) -> Verdict
+fn receive_checks(
+    frame: Frame,
+    u: Reading,
+    arrival: u8,
+    hop: u8,
+    copy: Held,
+    seen: Seen,
+) -> Result<(), Refusal>
     ensures { refusal_of result ≡ first_of (receive_checks (bare frame) u.0 arrival hop copy seen.same seen.other seen.named) }
 {
     let plan = frame.plan;
     let rules = frame.rules;
     let stamp = copy.stamp;
-    let mut found = or_if(
-        Verdict::Clear,
+    let own = copy.source == frame.own;
+    refuse_if(
         !is_in_plan(plan, frame.own, arrival, copy.source),
         Refusal::NotInPlan,
-    );
-    found = or_if(found, !is_fit_copy(rules, hop, copy), Refusal::BadValue);
-    found = or_if(found, !is_reading(u), Refusal::BadReading);
-    found = or_if(found, u.0 < frame.last.0, Refusal::Behind);
-    found = or_if(found, is_early(rules, plan, u, hop, stamp), Refusal::Early);
-    found = or_if(found, is_late(rules, plan, u, hop, stamp), Refusal::Late);
-    found = or_if(found, is_due(copy, frame.bound, u), Refusal::Past);
-    found = or_if(found, seen.same, Refusal::Known);
-    found = or_if(found, seen.other, Refusal::OtherHeld);
-    found = or_if(
-        found,
-        (copy.source == frame.own) & !seen.named,
-        Refusal::OwnNotHeld,
-    );
-    or_if(found, 32 <= frame.held, Refusal::HistoryFull)
+    )?;
+    refuse_if(!is_fit_copy(rules, hop, copy), Refusal::BadValue)?;
+    refuse_if(!is_reading(u), Refusal::BadReading)?;
+    refuse_if(u.0 < frame.last.0, Refusal::Behind)?;
+    refuse_if(is_early(rules, plan, u, hop, stamp), Refusal::Early)?;
+    refuse_if(is_late(rules, plan, u, hop, stamp), Refusal::Late)?;
+    refuse_if(is_due(copy, frame.bound, u), Refusal::Past)?;
+    refuse_if(seen.same, Refusal::Known)?;
+    refuse_if(seen.other, Refusal::OtherHeld)?;
+    refuse_if(own & !seen.named, Refusal::OwnNotHeld)?;
+    refuse_if(32 <= frame.held, Refusal::HistoryFull)
 }
 
 fn is_in_plan(plan: Plan, own: u8, arrival: u8, source: u8) -> bool

@@ -5,13 +5,13 @@ ghost use Rattle.host.specs.State.{bare};
 ghost use Rattle.host.specs.Answers.{refusal_of, says};
 ghost use Rattle.host.specs.Start.{start_checks, start_refusal, start_answer, start_says, start_host};
 
-use crate::checks::or_if;
+use crate::checks::refuse_if;
 use crate::history::with_held;
 use crate::links::links_but;
 use crate::sound::{frame_of, is_sound};
 use crate::starts::{newest, one_more, with_start};
 use crate::states::at_reading;
-use crate::{Acted, Frame, Held, Host, Refusal, SendAnswer, Verdict};
+use crate::{Acted, Frame, Held, Host, Refusal, Sent};
 use clock::{Reading, is_stamp, reached};
 use network::window;
 use orders::{Order, share_fits};
@@ -23,38 +23,32 @@ pub fn after_start(host: Host, u: Reading, order: Order) -> Acted
     if !is_sound(host) {
         return Acted {
             host,
-            answer: SendAnswer::Refused(Refusal::Unsound),
+            answer: Err(Refusal::Unsound),
         };
     }
     let answer = start_answer(frame_of(host), u, order);
     match answer {
-        SendAnswer::Refused(refusal) => Acted {
-            host,
-            answer: SendAnswer::Refused(refusal),
-        },
-        SendAnswer::Sent { links, hop } => Acted {
+        Err(_) => Acted { host, answer },
+        Ok(_) => Acted {
             host: start_held(host, u, order),
-            answer: SendAnswer::Sent { links, hop },
+            answer,
         },
     }
 }
 
 // What a start answers, by all of a sound state but its history.
-pub fn start_answer(frame: Frame, u: Reading, order: Order) -> SendAnswer
+pub fn start_answer(frame: Frame, u: Reading, order: Order) -> Result<Sent, Refusal>
     ensures { says result ≡ start_answer (bare frame) u.0 order }
 {
+    start_checks(frame, u, order)?;
     let plan = frame.plan;
-    let found = start_checks(frame, u, order);
-    match found {
-        Verdict::Refused(refusal) => SendAnswer::Refused(refusal),
-        Verdict::Clear => SendAnswer::Sent {
-            links: links_but(plan, frame.own, NO_LINK),
-            hop: first_hop(frame.rules),
-        },
-    }
+    Ok(Sent {
+        links: links_but(plan, frame.own, NO_LINK),
+        hop: first_hop(frame.rules),
+    })
 }
 
-fn start_checks(frame: Frame, u: Reading, order: Order) -> Verdict
+fn start_checks(frame: Frame, u: Reading, order: Order) -> Result<(), Refusal>
     ensures { refusal_of result ≡ first_of (start_checks (bare frame) u.0 order) }
 {
     let plan = frame.plan;
@@ -63,12 +57,12 @@ fn start_checks(frame: Frame, u: Reading, order: Order) -> Verdict
     let fourth_last = starts[0];
     let last = newest(starts, started);
     let open = reached(fourth_last, window(frame.rules, plan, frame.d), u);
-    let mut found = or_if(Verdict::Clear, !share_fits(order), Refusal::BadValue);
-    found = or_if(found, !is_stamp(u), Refusal::BadReading);
-    found = or_if(found, u.0 < frame.last.0, Refusal::Behind);
-    found = or_if(found, (0 < started) & (u.0 == last.0), Refusal::SameStart);
-    found = or_if(found, (4 <= started) & !open, Refusal::WindowFull);
-    or_if(found, 32 <= frame.held, Refusal::HistoryFull)
+    refuse_if(!share_fits(order), Refusal::BadValue)?;
+    refuse_if(!is_stamp(u), Refusal::BadReading)?;
+    refuse_if(u.0 < frame.last.0, Refusal::Behind)?;
+    refuse_if((0 < started) & (u.0 == last.0), Refusal::SameStart)?;
+    refuse_if((4 <= started) & !open, Refusal::WindowFull)?;
+    refuse_if(32 <= frame.held, Refusal::HistoryFull)
 }
 
 fn start_held(host: Host, u: Reading, order: Order) -> Host

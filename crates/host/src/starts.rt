@@ -10,13 +10,10 @@ use clock::Reading;
 pub fn newest(starts: [Reading; 4], started: usize) -> Reading
     ensures { result ≡ get_or starts (started - 1) no_reading }
 {
-    if started == 0 {
-        return starts[0];
-    }
-    if started > 4 {
-        return Reading(0);
-    }
-    starts[started - 1]
+    starts
+        .get(started.saturating_sub(1))
+        .copied()
+        .unwrap_or(Reading(0))
 }
 
 // Whether the starts rise strictly.
@@ -26,12 +23,9 @@ pub(crate) fn starts_rise(starts: [Reading; 4], started: usize) -> bool
 {
     let mut ok = true;
     let mut previous = starts[0];
-    let mut i = 1;
-    while i < started {
-        let s = starts[i];
-        ok = ok & is_earlier(previous, s);
-        previous = s;
-        i += 1;
+    for (i, s) in starts[..started].iter().enumerate() {
+        ok = ok & ((i == 0) | is_earlier(previous, *s));
+        previous = *s;
     }
     ok
 }
@@ -47,13 +41,7 @@ pub(crate) fn starts_passed(starts: [Reading; 4], started: usize, last: Reading)
     requires { started ≤ 4 }
     ensures { result ≡ all (not_above last.0) (take started starts) }
 {
-    let mut ok = true;
-    let mut i = 0;
-    while i < started {
-        ok = ok & is_passed(starts[i], last);
-        i += 1;
-    }
-    ok
+    starts[..started].iter().all(|s| is_passed(*s, last))
 }
 
 fn is_passed(s: Reading, last: Reading) -> bool
@@ -67,24 +55,18 @@ pub fn with_start(starts: [Reading; 4], started: usize, u: Reading) -> [Reading;
     ensures { result ≡ pad 4 no_reading (with_start (take started starts) u) }
 {
     let none = Reading(0);
-    if started == 0 {
-        return [u, none, none, none];
+    match started {
+        0 => [u, none, none, none],
+        1 => [starts[0], u, none, none],
+        2 => [starts[0], starts[1], u, none],
+        3 => [starts[0], starts[1], starts[2], u],
+        _ => [starts[1], starts[2], starts[3], u],
     }
-    if started == 1 {
-        return [starts[0], u, none, none];
-    }
-    if started == 2 {
-        return [starts[0], starts[1], u, none];
-    }
-    if started == 3 {
-        return [starts[0], starts[1], starts[2], u];
-    }
-    [starts[1], starts[2], starts[3], u]
 }
 
 // How many starts are then kept.
 pub fn one_more(started: usize) -> usize
     ensures { result ≡ started - (started - 3) + 1 }
 {
-    if started < 4 { started + 1 } else { 4 }
+    started.min(3) + 1
 }

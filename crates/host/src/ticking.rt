@@ -6,13 +6,14 @@ ghost use Rattle.host.specs.State.{no_held, sound, bare};
 ghost use Rattle.host.specs.Answers.{refusal_of, says_tick};
 ghost use Rattle.host.specs.Tick.{due_of, due_in, waiting_in, written, tick_checks, tick_refusal, tick_answer, tick_says, tick_host, tick_list};
 
-use crate::checks::or_if;
+use crate::checks::refuse_if;
 use crate::entries::put_entry;
 use crate::history::is_due;
 use crate::sound::{frame_of, is_sound};
 use crate::states::{at_reading, later};
 use crate::unused::no_held;
-use crate::{Frame, Held, Host, Refusal, TickAnswer, Ticked, Verdict};
+use crate::walks::due_in_front;
+use crate::{Frame, Held, Host, Refusal, Ticked};
 use clock::{Reading, is_reading};
 
 // Every order that is due leaves the history for the lent list; or the state comes back as it was, and the list keeps its bytes.
@@ -22,40 +23,34 @@ pub fn after_tick(host: Host, u: Reading, out: &mut [u8]) -> Ticked
     if !is_sound(host) {
         return Ticked {
             host,
-            answer: TickAnswer::Refused(Refusal::Unsound),
+            answer: Err(Refusal::Unsound),
         };
     }
     let count = due_count(host, u);
     let answer = tick_answer(frame_of(host), u, out.len(), count);
     match answer {
-        TickAnswer::Refused(refusal) => Ticked {
-            host,
-            answer: TickAnswer::Refused(refusal),
-        },
-        TickAnswer::Delivered(n) => Ticked {
+        Err(_) => Ticked { host, answer },
+        Ok(_) => Ticked {
             host: tick_left(host, u, out),
-            answer: TickAnswer::Delivered(n),
+            answer,
         },
     }
 }
 
 // What a tick answers, by all of a sound state but its history, and by how many are due there.
-pub fn tick_answer(frame: Frame, u: Reading, room: usize, count: usize) -> TickAnswer
+pub fn tick_answer(frame: Frame, u: Reading, room: usize, count: usize) -> Result<usize, Refusal>
     ensures { says_tick result ≡ tick_answer (bare frame) u.0 room count }
 {
-    let found = tick_checks(frame, u, room, count);
-    match found {
-        Verdict::Refused(refusal) => TickAnswer::Refused(refusal),
-        Verdict::Clear => TickAnswer::Delivered(count),
-    }
+    tick_checks(frame, u, room, count)?;
+    Ok(count)
 }
 
-fn tick_checks(frame: Frame, u: Reading, room: usize, count: usize) -> Verdict
+fn tick_checks(frame: Frame, u: Reading, room: usize, count: usize) -> Result<(), Refusal>
     ensures { refusal_of result ≡ first_of (tick_checks (bare frame) u.0 room count) }
 {
-    let mut found = or_if(Verdict::Clear, !is_reading(u), Refusal::BadReading);
-    found = or_if(found, u.0 < frame.last.0, Refusal::Behind);
-    or_if(found, room / 16 < count, Refusal::ShortBuffer)
+    refuse_if(!is_reading(u), Refusal::BadReading)?;
+    refuse_if(u.0 < frame.last.0, Refusal::Behind)?;
+    refuse_if(room / 16 < count, Refusal::ShortBuffer)
 }
 
 fn tick_left(host: Host, u: Reading, out: &mut [u8]) -> Host
@@ -67,9 +62,8 @@ fn tick_left(host: Host, u: Reading, out: &mut [u8]) -> Host
         return later(host, u);
     }
     let starts = host.starts;
-    let history = host.history;
-    let held = host.held;
-    let left = deliver(out, history, held, host.bound, u);
+    let held = &host.history[..host.held];
+    let left = deliver(out, held, host.bound, u);
     let rest = left.history;
     at_reading(host, u, starts, host.started, rest, left.held)
 }
@@ -81,16 +75,12 @@ pub(crate) struct Rest {
     pub history: [Held; 32],
 }
 
-// How many orders are due.
+// How many orders are due: they stand in front, since stamps rise.
 fn due_count(host: Host, u: Reading) -> usize
     requires { sound host ≡ true }
-    ensures { (result ≡ length (due_of host u.0)) × (result ≤ host.held) }
+    ensures { result ≡ length (due_of host u.0) }
 {
-    if is_idle(host, u) {
-        return 0;
-    }
-    let history = host.history;
-    count_due(history, host.held, host.bound, u)
+    due_in_front(&host.history[..host.held], host.bound, u)
 }
 
 // Whether nothing is due: the first of those held is due before all others.
@@ -102,42 +92,22 @@ fn is_idle(host: Host, u: Reading) -> bool
     (host.held == 0) | !is_due(first, host.bound, u)
 }
 
-// How many of those held are due.
-fn count_due(history: [Held; 32], held: usize, bound: u64, u: Reading) -> usize
-    requires { held ≤ 32 }
-    ensures { (result ≡ length (due_in bound u.0 (take held history))) × (result ≤ held) }
-{
-    let mut n: usize = 0;
-    let mut i = 0;
-    while i < held {
-        let e = history[i];
-        i += 1;
-        if is_due(e, bound, u) {
-            n += 1;
-        }
-    }
-    n
-}
-
 // Writes the entries of those that are due from the front of the lent list, and keeps the others.
-fn deliver(out: &mut [u8], history: [Held; 32], held: usize, bound: u64, u: Reading) -> Rest
-    requires { (held ≤ 32) × (16 * length (due_in bound u.0 (take held history)) ≤ length out.old) }
-    ensures held_value { result.held ≡ length (waiting_in bound u.0 (take held history)) }
-    ensures history_value { result.history ≡ pad 32 no_held (waiting_in bound u.0 (take held history)) }
-    ensures out_after { out.new ≡ written (due_in bound u.0 (take held history)) out.old }
+fn deliver(out: &mut [u8], history: &[Held], bound: u64, u: Reading) -> Rest
+    requires { (length history.now ≤ 32) × (16 * length (due_in bound u.0 history.now) ≤ length out.old) }
+    ensures held_value { result.held ≡ length (waiting_in bound u.0 history.now) }
+    ensures history_value { result.history ≡ pad 32 no_held (waiting_in bound u.0 history.now) }
+    ensures out_after { out.new ≡ written (due_in bound u.0 history.now) out.old }
 {
     let mut rest = [no_held(); 32];
     let mut waiting: usize = 0;
     let mut delivered: usize = 0;
-    let mut i = 0;
-    while i < held {
-        let e = history[i];
-        i += 1;
-        if is_due(e, bound, u) {
-            put_entry(out, 16 * delivered, e);
+    for e in history {
+        if is_due(*e, bound, u) {
+            put_entry(out, 16 * delivered, *e);
             delivered += 1;
         } else {
-            rest[waiting] = e;
+            rest[waiting] = *e;
             waiting += 1;
         }
     }

@@ -6,7 +6,7 @@ ghost use Rattle.host.specs.State.{no_held, is_no_link, is_no_reading, is_no_hel
 use crate::Held;
 use clock::Reading;
 use network::Link;
-use orders::{Order, same};
+use orders::Order;
 
 pub(crate) fn no_held() -> Held
     ensures { result ≡ no_held }
@@ -22,13 +22,7 @@ pub(crate) fn no_held() -> Held
 pub(crate) fn links_unused(links: [Link; 12], used: usize) -> bool
     ensures { result ≡ all is_no_link (drop used links) }
 {
-    let mut ok = true;
-    let mut i = used;
-    while i < 12 {
-        ok = ok & is_no_link(links[i]);
-        i += 1;
-    }
-    ok
+    links[used.min(12)..].iter().all(|l| is_no_link(*l))
 }
 
 fn is_no_link(l: Link) -> bool
@@ -41,13 +35,7 @@ fn is_no_link(l: Link) -> bool
 pub(crate) fn starts_unused(starts: [Reading; 4], used: usize) -> bool
     ensures { result ≡ all is_no_reading (drop used starts) }
 {
-    let mut ok = true;
-    let mut i = used;
-    while i < 4 {
-        ok = ok & is_no_reading(starts[i]);
-        i += 1;
-    }
-    ok
+    starts[used.min(4)..].iter().all(|s| is_no_reading(*s))
 }
 
 fn is_no_reading(s: Reading) -> bool
@@ -59,6 +47,5 @@ fn is_no_reading(s: Reading) -> bool
 pub(crate) fn is_no_held(e: Held) -> bool
     ensures { result ≡ is_no_held e }
 {
-    let order = e.order;
-    (e.stamp.0 == 0) & (e.source == 0) & same(order, Order::Publish { image: 0, share: 0 })
+    (e.stamp.0 == 0) & (e.source == 0) & matches!(e.order, Order::Publish { image: 0, share: 0 })
 }

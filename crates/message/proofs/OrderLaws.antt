@@ -17,7 +17,6 @@ use Rattle.orders.specs.Orders.{kind_of, image_of, share_of, is_kind, share_fits
 use Rattle.orders.specs.declared.Order.{Order}
 use Rattle.orders.proofs.Laws.{kind_is, right_size, right_value, from_parts, of_bytes, of_fits, of_size, right_kind}
 use Rattle.fields.specs.Fields.{field, stated_at}
-use Rattle.fields.specs.declared.Verdict.TheVariants.{Right}
 use Rattle.fields.proofs.Reading.{HeadIs, head_is, past_head}
 use Rattle.fields.proofs.Parts.{byte_part, field_part, front, after_head, length_front, stated_there, head_there}
 use Rattle.message.specs.Layout.{order_checks}
@@ -148,8 +147,8 @@ module _ (bs pre : List ℕ) (at : ℕ) (o : Order) (e : bs ≡ pre ++ field 4 (
   order_there =
       let sizes : wrong_size (get_or bs (at + 3) 0) (stated_at bs at) ≡ false = rw (kind_there, order_stated) (right_size o) in
       let values : wrong_value (get_or bs (at + 3) 0) (get_or bs (at + 8) 0) ≡ false = rw kind_there (right_value (get_or bs (at + 8) 0) o share_there fits) in
-      sym (past_head bs at 4 Right (sym (head_there bs pre [] value at 4 whole l (omega arith) short)) (wrong_size (get_or bs (at + 3) 0) (stated_at bs at))
-      (wrong_value (get_or bs (at + 3) 0) (get_or bs (at + 8) 0)) 0 refl (simp (sizes, values)))
+      sym (past_head bs at 4 (sym (head_there bs pre [] value at 4 whole l (omega arith) short)) (wrong_size (get_or bs (at + 3) 0) (stated_at bs at))
+      (wrong_value (get_or bs (at + 3) 0) (get_or bs (at + 8) 0)) 0 (simp (sizes, values)))
 
   pub order_is : order_at bs (at + 3) ≡ o
   order_is =

@@ -8,6 +8,8 @@ use native.Mathlib.Omega.{arith}
 use borrow.Author.Tests.{eq-eqb, ne_eqb, eqb-true, lt-ltb, le-ltb, ltb-false, not-false}
 use lib.Dec.{eqb, ltb}
 use lib.ListN.{length, get_or, take, drop}
+use Rattle.std.specs.Prelude.{Result, Ok, Err}
+use Rattle.std.specs.Result.{MatchResult, IsErrAnd}
 use Rattle.lists.specs.Tests.{first_of}
 use Rattle.lists.specs.Bytes.{val_at}
 use Rattle.lists.proofs.ByteLaws.{val_one}
@@ -19,53 +21,42 @@ use Rattle.fields.specs.Faults.{fault, verdict, first}
 use Rattle.fields.specs.Fields.{number_at, stated_at}
 use Rattle.fields.specs.Slots.{slot_checks, slot_fields, numbers_at}
 use Rattle.fields.specs.declared.Fault.{Fault}
-use Rattle.fields.specs.declared.Fault.TheVariants.{LeftOver}
-use Rattle.fields.specs.declared.Verdict.{Verdict}
-use Rattle.fields.specs.declared.Verdict.TheVariants.{Right, Wrong}
-use Rattle.fields.proofs.Checks.{first_wrong, first_right, Clear, first_clear, clear_right, fault_some}
+use Rattle.fields.proofs.Checks.{found_before, none_before, Clear, first_clear, clear_right, fault_some}
 use Rattle.message.specs.Layout.{stamp_slot, source_slot, hop_slot, slots, order_place, order_checks, ending, message_fields, found_at}
 use Rattle.message.specs.Calls.{nothing, read_refusal, read_of, part_of, place_of}
+use Rattle.message.specs.Inside.{judged, hop_fields}
 use Rattle.message.specs.declared.Found.{Found}
+use Rattle.message.specs.declared.reading.Misplaced.{Misplaced}
 
--- the fields after stamp and source
-abbrev pub after_source : ℕ → List ℕ → List (ℕ × List (ℕ × Bool))
-after_source rules bs = slot_fields bs 15 (cond (eqb rules 2) (hop_slot ∷ []) []) ++ ending bs (order_place rules)
+-- ---- from the verdict on each field to the first fault
 
-pub second_rules : (rules : ℕ) (bs : List ℕ) → eqb rules 2 ≡ true → after_source rules bs ≡ (15, slot_checks bs 15 hop_slot) ∷ ending bs 19
-second_rules rules bs e = simp e
+-- what `?` hands on, with more fields after those that were judged
+pub handed_on : (fs gs : List (ℕ × List (ℕ × Bool))) (m : Misplaced) (r : Result (Unit {0}) Misplaced) → judged (Err m) ≡ first fs → IsErrAnd r (λ n. n ≡ m) → judged r ≡ first (fs ++ gs)
+handed_on fs gs m (Ok _) e h = absurd h
+handed_on fs gs m (Err n) e h = rw h (found_before fs gs m.fault m.place e)
 
-pub first_rules : (rules : ℕ) (bs : List ℕ) → eqb rules 2 ≡ false → after_source rules bs ≡ ending bs 15
-first_rules rules bs e = simp e
+-- a verdict on one field, with its place
+pub field_judged : (at : ℕ) (cs : List (ℕ × Bool)) (v : Result (Unit {0}) Fault) (r : Result (Unit {0}) Misplaced) → verdict v ≡ first_of cs
+    → MatchResult v (λ _. r ≡ Ok tt) (λ f. IsErrAnd r (λ m. m ≡ record { fault = f; place = at })) → judged r ≡ first ((at, cs) ∷ [])
+unfolding first
+field_judged at cs (Ok _) r e m = rw (← e, m) refl
+field_judged at cs (Err f) (Ok _) e m = absurd m
+field_judged at cs (Err f) (Err n) e m = rw (← e, m, ne_eqb (fault f) 0 (fault_some f)) refl
 
--- the verdicts in their order: t on the stamp, s on the source, h on the hop
-module _ (rules : ℕ) (bs : List ℕ) where
-  module _ (t : Verdict) (stamp : verdict t ≡ first_of (slot_checks bs 0 stamp_slot)) where
-    pub stamp_wrong : (f : Fault) → t ≡ Wrong f → (fault f, 0) ≡ first (message_fields rules bs)
-    stamp_wrong = first_wrong 0 (slot_checks bs 0 stamp_slot) ((11, slot_checks bs 11 source_slot) ∷ after_source rules bs) t stamp
+-- past a stamp, a source and a hop with no fault
+module _ (rules : ℕ) (bs : List ℕ) (stamp : (0, 0) ≡ first ((0, slot_checks bs 0 stamp_slot) ∷ [])) where
+  abbrev from_hop : List (ℕ × List (ℕ × Bool))
+  from_hop = hop_fields rules bs ++ ending bs (order_place rules)
 
-    module _ (right : t ≡ Right) (s : Verdict) (source : verdict s ≡ first_of (slot_checks bs 11 source_slot)) where
-      past_stamp : first (message_fields rules bs) ≡ first ((11, slot_checks bs 11 source_slot) ∷ after_source rules bs)
-      past_stamp = first_right 0 (slot_checks bs 0 stamp_slot) ((11, slot_checks bs 11 source_slot) ∷ after_source rules bs) t stamp right
+  pub past_stamp : first ((11, slot_checks bs 11 source_slot) ∷ from_hop) ≡ first (message_fields rules bs)
+  past_stamp = none_before ((0, slot_checks bs 0 stamp_slot) ∷ []) ((11, slot_checks bs 11 source_slot) ∷ from_hop) stamp
 
-      pub source_wrong : (f : Fault) → s ≡ Wrong f → (fault f, 11) ≡ first (message_fields rules bs)
-      source_wrong f w = first_wrong 11 (slot_checks bs 11 source_slot) (after_source rules bs) s source f w ∙ sym past_stamp
+  module _ (source : (0, 0) ≡ first ((11, slot_checks bs 11 source_slot) ∷ [])) where
+    pub past_source : first from_hop ≡ first (message_fields rules bs)
+    past_source = none_before ((11, slot_checks bs 11 source_slot) ∷ []) from_hop source ∙ past_stamp
 
-      pub past_source : s ≡ Right → first (message_fields rules bs) ≡ first (after_source rules bs)
-      past_source r = past_stamp ∙ first_right 11 (slot_checks bs 11 source_slot) (after_source rules bs) s source r
-
-  module _ (past : first (message_fields rules bs) ≡ first (after_source rules bs)) where
-    pub order_first : eqb rules 2 ≡ false → first (ending bs 15) ≡ first (message_fields rules bs)
-    order_first e = sym (past ∙ ap first (first_rules rules bs e))
-
-    module _ (e : eqb rules 2 ≡ true) (h : Verdict) (hop : verdict h ≡ first_of (slot_checks bs 15 hop_slot)) where
-      to_hop : first (message_fields rules bs) ≡ first ((15, slot_checks bs 15 hop_slot) ∷ ending bs 19)
-      to_hop = past ∙ ap first (second_rules rules bs e)
-
-      pub hop_wrong : (f : Fault) → h ≡ Wrong f → (fault f, 15) ≡ first (message_fields rules bs)
-      hop_wrong f w = first_wrong 15 (slot_checks bs 15 hop_slot) (ending bs 19) h hop f w ∙ sym to_hop
-
-      pub order_second : h ≡ Right → first (ending bs 19) ≡ first (message_fields rules bs)
-      order_second r = sym (to_hop ∙ first_right 15 (slot_checks bs 15 hop_slot) (ending bs 19) h hop r)
+    pub past_hop : (0, 0) ≡ first (hop_fields rules bs) → first (ending bs (order_place rules)) ≡ first (message_fields rules bs)
+    past_hop hop = none_before (hop_fields rules bs) (ending bs (order_place rules)) hop ∙ past_source
 
 -- the last field, and what follows it
 module _ (bs : List ℕ) (at : ℕ) where
@@ -75,26 +66,20 @@ module _ (bs : List ℕ) (at : ℕ) where
   abbrev no_more : List (ℕ × Bool)
   no_more = (37, ltb stop (length bs)) ∷ []
 
-  pub order_wrong : (v : Verdict) → verdict v ≡ first_of (order_checks bs at) → (f : Fault) → v ≡ Wrong f → (fault f, at) ≡ first (ending bs at)
-  order_wrong = first_wrong at (order_checks bs at) ((stop, no_more) ∷ [])
+  pub order_room : first_of (order_checks bs at) ≡ 0 → at + 3 + stated_at bs at ≤ length bs
+  order_room order = ltb-false (length bs) stop (none_pass (order_checks bs at) refl order).0
 
-  module _ (order : first_of (order_checks bs at) ≡ 0) where
-    pub order_room : at + 3 + stated_at bs at ≤ length bs
-    order_room = ltb-false (length bs) stop (none_pass (order_checks bs at) refl order).0
+  module _ (n : ℕ) (e : n ≡ stop) (order : (0, 0) ≡ first ((at, order_checks bs at) ∷ [])) where
+    past_order : first ((stop, no_more) ∷ []) ≡ first (ending bs at)
+    past_order = none_before ((at, order_checks bs at) ∷ []) ((stop, no_more) ∷ []) order
 
-    past_order : first (ending bs at) ≡ first ((stop, no_more) ∷ [])
-    past_order = first_right at (order_checks bs at) ((stop, no_more) ∷ []) Right (sym order) refl
+    pub left_over : n < length bs → (37, n) ≡ first (ending bs at)
+    unfolding first
+    left_over h = rw (← past_order) (simp (e, lt-ltb stop (length bs) (omega arith)))
 
-    module _ (n : ℕ) (e : n ≡ stop) where
-      pub left_over : n < length bs → (37, n) ≡ first (ending bs at)
-      left_over h =
-          ap (λ (k : ℕ). (37, k)) e
-          ∙ first_wrong stop no_more [] (Wrong LeftOver) (simp (lt-ltb stop (length bs) (omega arith))) LeftOver refl
-          ∙ sym past_order
-
-      pub none_left : length bs ≤ n → (0, 0) ≡ first (ending bs at)
-      unfolding first
-      none_left h = sym (past_order ∙ simp (le-ltb stop (length bs) (omega arith)))
+    pub none_left : length bs ≤ n → (0, 0) ≡ first (ending bs at)
+    unfolding first
+    none_left h = rw (← past_order) (simp (le-ltb stop (length bs) (omega arith)))
 
 -- ---- what reading answers
 

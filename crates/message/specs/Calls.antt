@@ -1,5 +1,5 @@
 -- What writing and reading answer, and what they leave (01, "Refusal numbers"). Assumes nothing.
-use Rattle.std.specs.Prelude.{Bool, cond, not, List, [], ◌∷◌, ◌++◌, ℕ, ◌+◌, leb, ltb, eqb, length, take, drop}
+use Rattle.std.specs.Prelude.{Bool, cond, not, Result, Ok, Err, List, [], ◌∷◌, ◌++◌, ℕ, ◌+◌, leb, ltb, eqb, length, take, drop}
 use Rattle.lists.specs.Tests.{all_of, first_of}
 use Rattle.clock.specs.Clock.{largest_stamp}
 use Rattle.orders.specs.Orders.{share_fits}
@@ -9,10 +9,10 @@ use Rattle.fields.specs.Faults.{first}
 use Rattle.message.specs.Layout.{layout, message_fields, found_at}
 use Rattle.message.specs.declared.Message.{Message}
 use Rattle.message.specs.declared.Found.{Found}
-use Rattle.message.specs.declared.Written.{Written}
-use Rattle.message.specs.declared.Written.TheVariants as written_as
-use Rattle.message.specs.declared.Got.{Got}
-use Rattle.message.specs.declared.Got.TheVariants as got-as
+use Rattle.message.specs.declared.WriteRefusal.{WriteRefusal}
+use Rattle.message.specs.declared.WriteRefusal.TheVariants.{OutOfRange, NoRoom}
+use Rattle.message.specs.declared.ReadRefusal.{ReadRefusal}
+use Rattle.message.specs.declared.ReadRefusal.TheVariants.{WrongRules, NotAMessage}
 
 -- "A refusal returns its number and zero elsewhere"; 0 is no refusal
 abbrev pub answer : {A : Type 0} → ℕ → A → A → ℕ × A
@@ -28,11 +28,14 @@ in_range rules m = all_of (is_rules rules ∷ leb m.stamp.0 largest_stamp ∷ le
 abbrev pub write_refusal : ℕ → Message → ℕ → ℕ
 write_refusal rules m room = first_of ((23, not (in_range rules m)) ∷ (22, ltb room (length (layout rules m))) ∷ [])
 
--- the numbers of each answer
-abbrev pub write_says : Written → ℕ × ℕ
-write_says (written_as.Length n) = (0, n)
-write_says written_as.OutOfRange = (23, 0)
-write_says written_as.NoRoom = (22, 0)
+-- the number of each refusal, and the numbers of each answer
+abbrev pub write_number : WriteRefusal → ℕ
+write_number OutOfRange = 23
+write_number NoRoom = 22
+
+abbrev pub write_says : Result ℕ WriteRefusal → ℕ × ℕ
+write_says (Ok n) = (0, n)
+write_says (Err r) = (write_number r, 0)
 
 abbrev pub written : ℕ → Message → ℕ → ℕ × ℕ
 written rules m room = answer (write_refusal rules m room) 0 (length (layout rules m))
@@ -51,10 +54,13 @@ read_refusal rules bs = first_of ((23, not (is_rules rules)) ∷ (30, not (eqb (
 abbrev pub nothing : Found
 nothing = record { message = record { stamp = record { 0 = 0 }; source = 0; hop = 0; order = Publish 0 0 }; start = 0; size = 0 }
 
-abbrev pub read_says : Got → ℕ × Found
-read_says (got-as.Message f) = (0, f)
-read_says got-as.WrongRules = (23, nothing)
-read_says got-as.NotAMessage = (30, nothing)
+abbrev pub read_number : ReadRefusal → ℕ
+read_number WrongRules = 23
+read_number NotAMessage = 30
+
+abbrev pub read_says : Result Found ReadRefusal → ℕ × Found
+read_says (Ok f) = (0, f)
+read_says (Err r) = (read_number r, nothing)
 
 abbrev pub read_of : ℕ → List ℕ → ℕ × Found
 read_of rules bs = answer (read_refusal rules bs) nothing (found_at rules bs)

@@ -1,16 +1,21 @@
 -- What only private contracts say. Assumes nothing.
-use Rattle.std.specs.Prelude.{List, ◌++◌, ℕ, length}
+use Rattle.std.specs.Prelude.{Bool, cond, Result, Ok, Err, List, [], ◌∷◌, ◌++◌, ℕ, eqb, length}
 use Rattle.lists.specs.Bytes.{be}
 use Rattle.orders.specs.Orders.{kind_of, image_of, order_bytes}
 use Rattle.orders.specs.declared.Order.{Order}
 use Rattle.fields.specs.Faults.{fault}
-use Rattle.message.specs.declared.reading.Judged.{Judged}
-use Rattle.message.specs.declared.reading.Judged.TheVariants.{Clear, Faulty}
+use Rattle.fields.specs.Slots.{slot_fields}
+use Rattle.message.specs.Layout.{hop_slot}
+use Rattle.message.specs.declared.reading.Misplaced.{Misplaced}
 
 -- the first fault's number and the place where its field begins
-abbrev pub judged : Judged → ℕ × ℕ
-judged Clear = (0, 0)
-judged (Faulty f place) = (fault f, place)
+abbrev pub judged : Result (Unit {0}) Misplaced → ℕ × ℕ
+judged (Ok _) = (0, 0)
+judged (Err m) = (fault m.fault, m.place)
+
+-- the hop's field, which the second rules have
+abbrev pub hop_fields : ℕ → List ℕ → List (ℕ × List (ℕ × Bool))
+hop_fields rules bs = slot_fields bs 15 (cond (eqb rules 2) (hop_slot ∷ []) [])
 
 -- field 4 up to the image: tag, length, kind, image
 abbrev pub order_start : Order → List ℕ

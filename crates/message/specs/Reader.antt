@@ -1,25 +1,24 @@
 -- "The reader keeps the message it was lent and its place in it" (01, "The message"): where it begins, and what it answers and leaves at
 -- the next field. Assumes nothing.
-use Rattle.std.specs.Prelude.{cond, List, ℕ, ◌+◌, eqb}
+use Rattle.std.specs.Prelude.{cond, Result, Ok, Err, List, ℕ, ◌+◌, eqb}
 use Rattle.std.specs.Borrow.{Bor}
 use Rattle.lists.specs.Tests.{first_of}
 use Rattle.fields.specs.Fields.{number_at}
 use Rattle.fields.specs.Slots.{slot_checks}
 use Rattle.fields.specs.Faults.{fault}
+use Rattle.fields.specs.declared.Fault.{Fault}
 use Rattle.fields.specs.declared.Slot.{Slot}
 use Rattle.message.specs.Calls.{answer}
 use Rattle.message.specs.declared.reader.Reader.{Reader}
-use Rattle.message.specs.declared.Number.{Number}
-use Rattle.message.specs.declared.Number.TheVariants.{Value, Wrong}
 
 -- the message it was lent, at its start
 abbrev pub opened : Bor (List ℕ) → Reader
 opened message = record { message = message; at = 0 }
 
 -- the numbers of each answer
-abbrev pub number_says : Number → ℕ × ℕ
-number_says (Value x) = (0, x)
-number_says (Wrong f) = (fault f, 0)
+abbrev pub number_says : Result ℕ Fault → ℕ × ℕ
+number_says (Ok x) = (0, x)
+number_says (Err f) = (fault f, 0)
 
 -- the number of a slot in the field at a place, or the first fault of that field (02 §1)
 abbrev pub next_number : List ℕ → ℕ → Slot → ℕ × ℕ

@@ -7,52 +7,66 @@ mod writing;
 
 ghost use Rattle.std.specs.Prelude.{◌≡◌};
 ghost use Rattle.message.specs.Layout.{order_place};
+ghost use Rattle.message.specs.Calls.{write_number, read_number};
 
 use clock::{LARGEST_STAMP, Reading};
-use fields::{Fault, Slot};
+use fields::Slot;
 use orders::Order;
-pub use reader::{Reader, next_number, open, order_bytes, whole};
+pub use reader::Reader;
 pub use reading::{order_part, read};
 pub use writing::write;
 
-#[derive(Clone, Copy)]
+#[derive(Clone, Copy, Debug, PartialEq, Eq)]
 pub struct Message {
     pub stamp: Reading,
     pub source: u8,
-    // 1..8 under the second rules, 0 under the first.
+    // 1..8 under the second rules, 0 under the first; a number, as a call takes any and refuses the rest.
     pub hop: u8,
     pub order: Order,
 }
 
-// What writing answers: the message's length, or 23, or 22.
-#[derive(Clone, Copy)]
-pub enum Written {
-    Length(usize),
+// Why a message is not written.
+#[derive(Clone, Copy, Debug, PartialEq, Eq)]
+pub enum WriteRefusal {
     OutOfRange,
     NoRoom,
 }
 
-// A message that was read, with the place and the size of its order's bytes.
-#[derive(Clone, Copy)]
+impl From<WriteRefusal> for u8 {
+    ghost from_gives = { λ r n. n ≡ write_number r };
+
+    fn from(refusal: WriteRefusal) -> u8 {
+        match refusal {
+            WriteRefusal::OutOfRange => 23,
+            WriteRefusal::NoRoom => 22,
+        }
+    }
+}
+
+// A message that was read, with the place and the size of its order's bytes: numbers, as C is given them.
+#[derive(Clone, Copy, Debug, PartialEq, Eq)]
 pub struct Found {
     pub message: Message,
     pub start: usize,
     pub size: usize,
 }
 
-// What reading answers: the message, or 23, or 30.
-#[derive(Clone, Copy)]
-pub enum Got {
-    Message(Found),
+// Why bytes are not read.
+#[derive(Clone, Copy, Debug, PartialEq, Eq)]
+pub enum ReadRefusal {
     WrongRules,
     NotAMessage,
 }
 
-// What the next field of a reader answers: its number, or its fault.
-#[derive(Clone, Copy)]
-pub enum Number {
-    Value(u64),
-    Wrong(Fault),
+impl From<ReadRefusal> for u8 {
+    ghost from_gives = { λ r n. n ≡ read_number r };
+
+    fn from(refusal: ReadRefusal) -> u8 {
+        match refusal {
+            ReadRefusal::WrongRules => 23,
+            ReadRefusal::NotAMessage => 30,
+        }
+    }
 }
 
 pub const STAMP: Slot = Slot {
@@ -77,6 +91,7 @@ pub const HOP: Slot = Slot {
 };
 
 // Where the order's field begins: after stamp and source, and under the second rules the hop.
+// A rule set is a number, as a call takes any and refuses the rest.
 fn order_place(rules: u8) -> usize
     ensures { result ≡ order_place rules }
 {

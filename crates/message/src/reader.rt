@@ -1,10 +1,10 @@
-// The reader, which keeps the message it was lent and its place in it: thin functions over those on a slice and a number.
+// The reader, which keeps the message it was lent and its place in it.
 ghost use Rattle.std.specs.Prelude.{◌≡◌};
 ghost use Rattle.message.specs.Calls.{read_says, read_of, part_of, place_of};
-ghost use Rattle.message.specs.Reader.{opened, number_says, next_number, next_place, moved};
+ghost use Rattle.message.specs.Reader.{opened, number_says, next_number, moved};
 
-use crate::{Got, Number};
-use fields::{Slot, Verdict};
+use crate::{Found, ReadRefusal};
+use fields::{Fault, Slot};
 
 #[derive(Clone, Copy)]
 pub struct Reader<'a> {
@@ -12,59 +12,35 @@ pub struct Reader<'a> {
     pub at: usize,
 }
 
-// A reader at the start of a message.
-pub fn open<'a>(message: &'a [u8]) -> Reader<'a>
-    ensures { result ≡ opened message.entry }
-{
-    Reader { message, at: 0 }
-}
+impl<'a> Reader<'a> {
+    // A reader at the start of a message.
+    pub fn open(message: &'a [u8]) -> Reader<'a>
+        ensures { result ≡ opened message.entry }
+    {
+        Reader { message, at: 0 }
+    }
 
-// The number in the next field, past which the place moves; at a fault it stays.
-pub fn next_number<'s, 'a>(r: &'s mut Reader<'a>, slot: Slot) -> Number
-    ensures { (number_says result ≡ next_number r.old.message.now r.old.at slot) × (r.new ≡ moved r.old slot) }
-{
-    let taken = take_number(r.message, r.at, slot);
-    r.at = taken.place;
-    taken.number
-}
+    // The number in the next field, past which the place moves; at a fault it stays.
+    pub fn next_number(&mut self, slot: Slot) -> Result<u64, Fault>
+        ensures { (number_says result ≡ next_number self.old.message.now self.old.at slot) × (self.new ≡ moved self.old slot) }
+    {
+        fields::slot_fault(self.message, self.at, slot)?;
+        let start = self.at + 3;
+        self.at = start + slot.width as usize;
+        Ok(fields::value_at(self.message, start, slot.width))
+    }
 
-// The whole message, wherever the place is.
-pub fn whole<'a>(r: Reader<'a>, rules: u8) -> Got
-    ensures { read_says result ≡ read_of rules r.entry.message.now }
-{
-    crate::read(rules, r.message)
-}
+    // The whole message, wherever the place is.
+    pub fn whole(self, rules: u8) -> Result<Found, ReadRefusal>
+        ensures { read_says result ≡ read_of rules self.entry.message.now }
+    {
+        crate::read(rules, self.message)
+    }
 
-// The order's bytes, as that part of the message, wherever the place is.
-pub fn order_bytes<'a>(r: Reader<'a>, rules: u8) -> &'a [u8]
-    ensures { (result.ref_ptr ≡ place_of rules r.entry.message.now r.entry.message.ref_ptr) × (result.now ≡ part_of rules r.entry.message.now) }
-{
-    crate::order_part(rules, r.message)
-}
-
-// A number, or its fault, and the place after it.
-#[derive(Clone, Copy)]
-struct Taken {
-    number: Number,
-    place: usize,
-}
-
-fn take_number(bytes: &[u8], at: usize, slot: Slot) -> Taken
-    ensures { (number_says result.number ≡ next_number bytes.now at slot) × (result.place ≡ next_place bytes.now at slot) }
-{
-    let told = fields::slot_fault(bytes, at, slot);
-    match told {
-        Verdict::Wrong(fault) => Taken {
-            number: Number::Wrong(fault),
-            place: at,
-        },
-        Verdict::Right => {
-            let start = at + 3;
-            let x = fields::value_at(bytes, start, slot.width);
-            Taken {
-                number: Number::Value(x),
-                place: start + slot.width as usize,
-            }
-        }
+    // The order's bytes, as that part of the message, wherever the place is.
+    pub fn order_bytes(self, rules: u8) -> &'a [u8]
+        ensures { (result.ref_ptr ≡ place_of rules self.entry.message.now self.entry.message.ref_ptr) × (result.now ≡ part_of rules self.entry.message.now) }
+    {
+        crate::order_part(rules, self.message)
     }
 }

@@ -1,98 +1,94 @@
 // Reading: the bytes are judged field by field from the front, and then the message is taken from where it stands.
-ghost use Rattle.std.specs.Prelude.{◌≡◌, cond, eqb, get_or};
+ghost use Rattle.std.specs.Prelude.{◌≡◌, cond, eqb, [], ◌∷◌, get_or};
 ghost use Rattle.lists.specs.Tests.{first_of};
 ghost use Rattle.fields.specs.Faults.{verdict, first};
+ghost use Rattle.fields.specs.Slots.{slot_checks};
 ghost use Rattle.message.specs.Layout.{order_checks, ending, message_fields, found_at};
 ghost use Rattle.message.specs.Calls.{read_says, read_of, part_of, place_of};
-ghost use Rattle.message.specs.Inside.{judged};
+ghost use Rattle.message.specs.Inside.{judged, hop_fields};
 
-use crate::{Found, Got, Message};
+use crate::{Found, Message, ReadRefusal};
 use clock::Reading;
-use fields::{Fault, Verdict};
+use fields::{Fault, Slot};
 
-// Reads a message, or refuses: 23, then 30 whatever is wrong with the bytes.
-pub fn read(rules: u8, bytes: &[u8]) -> Got
+// Reads a message, or refuses: wrong rules, then no message, whatever is wrong with the bytes.
+pub fn read(rules: u8, bytes: &[u8]) -> Result<Found, ReadRefusal>
     ensures { read_says result ≡ read_of rules bytes.now }
 {
     if !orders::is_rules(rules) {
-        return Got::WrongRules;
+        return Err(ReadRefusal::WrongRules);
     }
-    let told = judge(rules, bytes);
-    match told {
-        Judged::Faulty { fault: _, place: _ } => Got::NotAMessage,
-        Judged::Clear => Got::Message(found_at(rules, bytes)),
-    }
+    judge(rules, bytes).map_err(|_| ReadRefusal::NotAMessage)?;
+    Ok(found_at(rules, bytes))
 }
 
 // The order's bytes, as that part of the message; where there is none, the empty part at its start.
 pub fn order_part(rules: u8, bytes: &[u8]) -> &[u8]
     ensures { (result.ref_ptr ≡ place_of rules bytes.now bytes.entry.ref_ptr) × (result.now ≡ part_of rules bytes.now) }
 {
-    let got = read(rules, bytes);
-    match got {
-        Got::Message(found) => {
-            let start = found.start;
-            let end = start + found.size;
-            &bytes[start..end]
+    match read(rules, bytes) {
+        Ok(found) => {
+            let end = found.start + found.size;
+            &bytes[found.start..end]
         }
-        Got::WrongRules => &bytes[..0],
-        Got::NotAMessage => &bytes[..0],
+        Err(_) => &bytes[..0],
     }
 }
 
-// The first fault, and the place where its field begins; for bytes left over, the first of them.
+// A fault, and the place where its field begins; for bytes left over, the first of them.
 #[derive(Clone, Copy)]
-enum Judged {
-    Clear,
-    Faulty { fault: Fault, place: usize },
+struct Misplaced {
+    fault: Fault,
+    place: usize,
 }
 
-fn judge(rules: u8, bytes: &[u8]) -> Judged
+// The first fault, field by field from the front.
+fn judge(rules: u8, bytes: &[u8]) -> Result<(), Misplaced>
     ensures { judged result ≡ first (message_fields rules bytes.now) }
 {
-    let stamp = fields::slot_fault(bytes, 0, crate::STAMP);
-    if let Verdict::Wrong(fault) = stamp {
-        return Judged::Faulty { fault, place: 0 };
-    }
-    let source = fields::slot_fault(bytes, 11, crate::SOURCE);
-    if let Verdict::Wrong(fault) = source {
-        return Judged::Faulty { fault, place: 11 };
-    }
+    judge_slot(bytes, 0, crate::STAMP)?;
+    judge_slot(bytes, 11, crate::SOURCE)?;
+    judge_hop(rules, bytes)?;
+    judge_order(bytes, crate::order_place(rules))
+}
+
+fn judge_slot(bytes: &[u8], place: usize, slot: Slot) -> Result<(), Misplaced>
+    ensures { judged result ≡ first ((place, slot_checks bytes.now place slot) ∷ []) }
+{
+    fields::slot_fault(bytes, place, slot).map_err(|fault| Misplaced { fault, place })
+}
+
+// The hop's field, which the second rules have.
+#[tactic(auto, unfolding(fields::specs::Faults::first))]
+fn judge_hop(rules: u8, bytes: &[u8]) -> Result<(), Misplaced>
+    ensures { judged result ≡ first (hop_fields rules bytes.now) }
+{
     if rules == 2 {
-        let hop = fields::slot_fault(bytes, 15, crate::HOP);
-        if let Verdict::Wrong(fault) = hop {
-            return Judged::Faulty { fault, place: 15 };
-        }
-        return judge_order(bytes, 19);
+        judge_slot(bytes, 15, crate::HOP)
+    } else {
+        Ok(())
     }
-    judge_order(bytes, 15)
 }
 
 // Field 4, and that nothing follows it.
-fn judge_order(bytes: &[u8], at: usize) -> Judged
-    ensures { judged result ≡ first (ending bytes.now at) }
+fn judge_order(bytes: &[u8], place: usize) -> Result<(), Misplaced>
+    ensures { judged result ≡ first (ending bytes.now place) }
 {
-    let order = order_fault(bytes, at);
-    if let Verdict::Wrong(fault) = order {
-        return Judged::Faulty { fault, place: at };
-    }
-    let end = at + 3 + fields::value_at(bytes, at + 1, 2) as usize;
+    order_fault(bytes, place).map_err(|fault| Misplaced { fault, place })?;
+    let end = place + 3 + fields::value_at(bytes, place + 1, 2) as usize;
     if end < bytes.len() {
-        return Judged::Faulty {
+        return Err(Misplaced {
             fault: Fault::LeftOver,
             place: end,
-        };
+        });
     }
-    Judged::Clear
+    Ok(())
 }
 
-fn order_fault(bytes: &[u8], at: usize) -> Verdict
+fn order_fault(bytes: &[u8], at: usize) -> Result<(), Fault>
     ensures { verdict result ≡ first_of (order_checks bytes.now at) }
 {
-    let head = fields::head_fault(bytes, at, 4);
-    if let Verdict::Wrong(_) = head {
-        return head;
-    }
+    fields::head_fault(bytes, at, 4)?;
     let size = fields::value_at(bytes, at + 1, 2) as usize;
     let kind = fields::byte_at(bytes, at + 3);
     let share = fields::byte_at(bytes, at + 8);

@@ -7,49 +7,47 @@ ghost use Rattle.message.specs.Layout.{layout};
 ghost use Rattle.message.specs.Calls.{in_range, write_says, written, written_to};
 ghost use Rattle.message.specs.Inside.{order_start};
 
-use crate::{Message, Written};
+use crate::{Message, WriteRefusal};
 use orders::Order;
 
-// Writes a message from the first byte on, or refuses: 23, then 22.
-pub fn write(rules: u8, message: Message, out: &mut [u8]) -> Written
+// Writes a message from the first byte on, and answers its length; or refuses: out of range, then no room.
+pub fn write(rules: u8, message: Message, out: &mut [u8]) -> Result<usize, WriteRefusal>
     ensures { (write_says result ≡ written rules message (length out.old)) × (out.new ≡ written_to rules message out.old) }
 {
     if !in_range(rules, message) {
-        return Written::OutOfRange;
+        return Err(WriteRefusal::OutOfRange);
     }
-    let order = message.order;
-    let n = crate::order_place(rules) + 3 + orders::size(order);
+    let n = crate::order_place(rules) + 3 + orders::size(message.order);
     if out.len() < n {
-        return Written::NoRoom;
+        return Err(WriteRefusal::NoRoom);
     }
     put_message(out, rules, message);
-    Written::Length(n)
+    Ok(n)
 }
 
+#[tactic(auto, unfolding(crate::specs::Calls::in_range, lists::specs::Tests::all_of))]
 fn in_range(rules: u8, message: Message) -> bool
     ensures { result ≡ in_range rules message }
 {
-    let stamp = message.stamp;
-    let order = message.order;
-    let numbers_fit = clock::is_stamp(stamp)
-        & (message.source <= 7)
-        & orders::hop_fits(rules, message.hop);
-    orders::is_rules(rules) & numbers_fit & orders::share_fits(order)
+    orders::is_rules(rules)
+        && clock::is_stamp(message.stamp)
+        && message.source <= 7
+        && orders::hop_fits(rules, message.hop)
+        && orders::share_fits(message.order)
 }
 
 fn put_message(out: &mut [u8], rules: u8, message: Message)
     requires { length (layout rules message) ≤ length out.old }
     ensures { out.new ≡ placed out.old 0 (layout rules message) }
 {
-    let stamp = message.stamp;
-    let order = message.order;
-    fields::put_slot(out, 0, crate::STAMP, stamp.0);
+    fields::put_slot(out, 0, crate::STAMP, message.stamp.0);
     fields::put_slot(out, 11, crate::SOURCE, message.source as u64);
     put_hop(out, rules, message.hop);
-    put_order(out, crate::order_place(rules), order);
+    put_order(out, crate::order_place(rules), message.order);
 }
 
 // The hop's field, which the second rules have.
+#[tactic(auto, using(fields::proofs::Placing::placed_none))]
 fn put_hop(out: &mut [u8], rules: u8, hop: u8)
     ensures { out.new ≡ placed out.old 15 (cond (eqb rules 2) (field 3 (be 1 hop)) []) }
 {

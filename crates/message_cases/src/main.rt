@@ -8,7 +8,7 @@ mod text;
 ghost use Rattle.std.specs.Prelude.{◌<◌};
 
 use clock::Reading;
-use message::{Got, Message, Written};
+use message::Message;
 use orders::Order;
 use std::io;
 
@@ -22,7 +22,7 @@ fn main(rt: HostRuntime) -> io::Result<()> {
     // Halt of image 7, stamp 100, source 0, first rules.
     let vector = made(1, 100, 0, 0, Order::Halt(7));
     let mut bytes = [0u8; 23];
-    message::write(1, vector.message, &mut bytes);
+    let _ = message::write(1, vector.message, &mut bytes);
     text::hex(&rt, &bytes)?;
     text::line(&rt, "")?;
     damage(&rt, vector)?;
@@ -54,91 +54,70 @@ fn publish(image: u32, share: u8) -> Order {
 // Each byte set to each value; each shorter message; each byte after the message.
 fn damage(rt: &impl Print, case: Case) -> io::Result<()> {
     let mut bytes = [0u8; 32];
-    let message = case.message;
-    let written = message::write(case.rules, message, &mut bytes);
-    let Written::Length(n) = written else {
+    let Ok(n) = message::write(case.rules, case.message, &mut bytes) else {
         return text::line(rt, "not written");
     };
     places::print(rt, case.rules, sweep::first(&bytes, n))?;
-    let none = sweep::none();
-    let one_more = std::num::wrapping_add_usize(n, 1);
-    sweep::print(
-        rt,
-        "damaged",
-        sweep::each_byte(case.rules, &mut bytes, 0, n, none),
-    )?;
-    sweep::print(rt, "cut", sweep::each_cut(case.rules, &bytes, n, none))?;
-    sweep::print(
-        rt,
-        "longer",
-        sweep::each_byte(case.rules, &mut bytes, n, one_more, none),
-    )
+    let damaged = sweep::each_byte(case.rules, &mut bytes, 0, n);
+    sweep::print(rt, "damaged", damaged)?;
+    sweep::print(rt, "cut", sweep::each_cut(case.rules, &bytes, n))?;
+    let longer = sweep::each_byte(case.rules, &mut bytes, n, n.saturating_add(1));
+    sweep::print(rt, "longer", longer)
 }
 
 // The refusals of writing, and of reading.
 fn refuse(rt: &impl Print) -> io::Result<()> {
     text::word(rt, "write")?;
-    text::number(rt, write_number(made(0, 0, 0, 0, Order::Halt(7)), 32))?;
-    text::number(rt, write_number(made(3, 0, 0, 1, Order::Halt(7)), 32))?;
-    text::number(
-        rt,
-        write_number(made(1, 1_099_511_623_680, 0, 0, Order::Halt(7)), 32),
-    )?;
-    text::number(rt, write_number(made(1, 0, 8, 0, Order::Halt(7)), 32))?;
-    text::number(rt, write_number(made(1, 0, 0, 1, Order::Halt(7)), 32))?;
-    text::number(rt, write_number(made(2, 0, 0, 0, Order::Halt(7)), 32))?;
-    text::number(rt, write_number(made(2, 0, 0, 9, Order::Halt(7)), 32))?;
-    text::number(rt, write_number(made(1, 0, 0, 0, publish(7, 0)), 32))?;
-    text::number(rt, write_number(made(1, 0, 0, 0, publish(7, 101)), 0))?;
-    text::number(rt, write_number(made(1, 0, 0, 0, Order::Halt(7)), 22))?;
-    text::number(rt, write_number(made(2, 0, 0, 1, publish(7, 1)), 27))?;
-    text::number(rt, write_number(made(2, 0, 0, 1, publish(7, 1)), 28))?;
+    let halt = Order::Halt(7);
+    for (case, room) in [
+        (made(0, 0, 0, 0, halt), 32),
+        (made(3, 0, 0, 1, halt), 32),
+        (made(1, 1_099_511_623_680, 0, 0, halt), 32),
+        (made(1, 0, 8, 0, halt), 32),
+        (made(1, 0, 0, 1, halt), 32),
+        (made(2, 0, 0, 0, halt), 32),
+        (made(2, 0, 0, 9, halt), 32),
+        (made(1, 0, 0, 0, publish(7, 0)), 32),
+        (made(1, 0, 0, 0, publish(7, 101)), 0),
+        (made(1, 0, 0, 0, halt), 22),
+        (made(2, 0, 0, 1, publish(7, 1)), 27),
+        (made(2, 0, 0, 1, publish(7, 1)), 28),
+    ] {
+        text::number(rt, write_number(case, room) as u64)?;
+    }
     text::line(rt, "")?;
     text::word(rt, "read")?;
-    text::number(rt, read_number(0))?;
-    text::number(rt, read_number(1))?;
+    for rules in [0, 1] {
+        text::number(rt, read_number(rules) as u64)?;
+    }
     text::line(rt, "")
 }
 
-// What writing to so many bytes answers, 32 at most.
-fn write_number(case: Case, room: usize) -> u64 {
+// The refusal of writing to so many bytes, 32 at most, or 0.
+fn write_number(case: Case, room: usize) -> u8 {
     let mut bytes = [0u8; 32];
-    if room > 32 {
-        return 0;
-    }
-    let message = case.message;
-    let written = message::write(case.rules, message, &mut bytes[..room]);
-    match written {
-        Written::Length(_) => 0,
-        Written::OutOfRange => 23,
-        Written::NoRoom => 22,
+    match message::write(case.rules, case.message, &mut bytes[..room.min(32)]) {
+        Ok(_) => 0,
+        Err(refusal) => u8::from(refusal),
     }
 }
 
-// What reading no bytes answers.
-fn read_number(rules: u8) -> u64 {
-    let got = message::read(rules, b"");
-    match got {
-        Got::Message(_) => 0,
-        Got::WrongRules => 23,
-        Got::NotAMessage => 30,
+// The refusal of reading no bytes, or 0.
+fn read_number(rules: u8) -> u8 {
+    match message::read(rules, b"") {
+        Ok(_) => 0,
+        Err(refusal) => u8::from(refusal),
     }
 }
 
 // A thousand messages from a fixed seed, written, read and compared; then a sum over all their bytes, and over their orders' bytes.
 fn shuffle(rt: &impl Print) -> io::Result<()> {
     let mut seed: u64 = 20;
-    let mut sums = sweep::Sums {
-        same: 0,
-        bytes: 0,
-        orders: 0,
-    };
-    let mut i: u32 = 0;
-    while i < 1000 {
+    let mut sums = sweep::Sums::default();
+    for _ in 0..1000 {
         let case = random_case(seed);
         sums = sweep::again(case.rules, case.message, sums);
         seed = random(random(random(random(seed))));
-        i += 1;
     }
     text::word(rt, "random")?;
     text::number(rt, sums.same as u64)?;
@@ -151,8 +130,7 @@ fn shuffle(rt: &impl Print) -> io::Result<()> {
 fn mislead(rt: &impl Print) -> io::Result<()> {
     let mut bytes = [0u8; 27];
     let case = made(2, 100, 7, 8, Order::Resume(7));
-    let message = case.message;
-    message::write(2, message, &mut bytes);
+    let _ = message::write(2, case.message, &mut bytes);
     places::print(rt, 2, sweep::first(&bytes, 14))?;
     bytes[11] = 3;
     places::print(rt, 2, &bytes)

@@ -1,6 +1,4 @@
 // Lines of words and numbers on standard output.
-ghost use Rattle.std.specs.Prelude.{◌<◌};
-
 use std::io;
 
 pub(crate) fn word(rt: &impl Print, text: &str) -> io::Result<()> {
@@ -22,10 +20,4 @@ pub(crate) fn hex(rt: &impl Print, bytes: &[u8]) -> io::Result<()> {
         print!(rt; "{byte:02x}")?;
     }
     Ok(())
-}
-
-pub(crate) fn wide(byte: u8) -> u64
-    ensures { result < 256 }
-{
-    byte as u64
 }

@@ -1,6 +1,6 @@
 -- The bits of a number, as `has` reads them: of the operations on numbers that hold sets, and of a number with one bit more. Assumes nothing.
 use mathlib.Core.Path.{◌≡◌, refl, sym, ap, ap₂, ◌∙◌}
-use mathlib.Core.Bool.{Bool, true, false, not, ◌&&◌, ◌||◌}
+use mathlib.Core.Bool.{Bool, true, false, not, ◌&&◌, ◌||◌, or_comm}
 use Prim.Native.Nat.{ℕ, zero, suc, ◌+◌, ◌-◌, ◌*◌, ◌/◌, ◌%◌, ◌^◌, ◌≤◌, ◌<◌}
 use native.Mathlib.Nat.{one-mul, zero-add, div-one, div-eq_of_lt, mod-lt, pow-suc, lt_of_lt_of_le, zero-lt-suc, le_of_suc-le-suc, not-suc-le-zero, zero-div}
 use native.Mathlib.Numerals.{one-add}
@@ -49,6 +49,10 @@ unfolding has
 has_or s t i =
     ap (λ (x : ℕ). eqb x 1) (ap (λ (x : ℕ). x % 2) (or_shr s t i) ∙ or_mod (s / 2 ^ i) (t / 2 ^ i) 1)
     ∙ or_digit (s / 2 ^ i % 2) (t / 2 ^ i % 2) (digit_lt s i) (digit_lt t i)
+
+-- a set with another put in
+pub has_more : (s t i : ℕ) → has (bit_or s t) i ≡ (has t i || has s i)
+has_more s t i = has_or s t i ∙ or_comm (has s i) (has t i)
 
 pub has_and : (s t i : ℕ) → has (bit_and s t) i ≡ (has s i && has t i)
 unfolding has

@@ -3,6 +3,7 @@ pub mod Bits
 pub mod Sizes
 pub mod Ranges
 mod PairLaws
+mod Links
 mod Repeats
 mod Rows
 mod Leasts

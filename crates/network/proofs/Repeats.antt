@@ -15,7 +15,7 @@ use Rattle.lists.proofs.TestLaws.{each_none}
 use Rattle.network.specs.Network.{n, link, same, bad_link}
 use Rattle.network.specs.Inside.{pair, Pairs, is_pair}
 use Rattle.network.specs.declared.Plan.{Plan}
-use Rattle.network.proofs.Bits.{has_or}
+use Rattle.network.proofs.Bits.{has_more}
 use Rattle.network.proofs.PairLaws.{one_pair}
 
 pub ordered : (a b k : ℕ) → (leb b a || leb k b) ≡ false → (a < b) × (b < k)
@@ -45,10 +45,10 @@ module _ (p : Plan) (i : ℕ) where
 
   -- the pairs seen, with this one
   pub seen_more : (seen : ℕ) → (link p i).a < 8 → (link p i).b < 8 → Pairs seen (λ x y. some i (is_pair p x y))
-      → Pairs (bit_or ((1 * 2 ^ pair (link p i).a (link p i).b) % 2 ^ 64) seen) (λ x y. some (i + 1) (is_pair p x y))
+      → Pairs (bit_or seen ((1 * 2 ^ pair (link p i).a (link p i).b) % 2 ^ 64)) (λ x y. some (i + 1) (is_pair p x y))
   unfolding is_pair
   seen_more seen ha hb is x y hx hy =
-      has_or _ seen (pair x y)
+      has_more seen _ (pair x y)
       ∙ ap₂ (λ (s t : Bool). s || t)
       (one_pair (link p i).a (link p i).b ha hb x y hx hy) (is x y hx hy)
       ∙ sym (some_more (is_pair p x y) i)

@@ -56,7 +56,7 @@ module _ {i k most set : ℕ} (s : Turn i k most set) (f : ℕ → ℕ) where
   skips low e = e ∙ sym (lower_only (i - 1) k most set s.here f _ s.top (λ j h. low (set + j) (absent (i - 1) k most set s.here j h))) ∙ to_i
 
   -- both halves are tried
-  pub meets : {r x y : ℕ} → r ≡ max y x → x ≡ largest (2 ^ (i - 1)) (λ j. f (set + (1 * 2 ^ (i - 1)) % 2 ^ 32 + j)) → y ≡ largest (2 ^ (i - 1)) (λ j. f (set + j))
+  pub meets : {r x y : ℕ} → r ≡ max x y → x ≡ largest (2 ^ (i - 1)) (λ j. f (set + (1 * 2 ^ (i - 1)) % 2 ^ 32 + j)) → y ≡ largest (2 ^ (i - 1)) (λ j. f (set + j))
       → r ≡ largest (2 ^ i) (λ j. f (set + j))
   meets {r} {x} {y} er ex ey =
       let halves = in_halves (i - 1) k most set s.here f _ s.top in

@@ -12,14 +12,10 @@ pub(crate) fn joined(p: Plan) -> u64
     requires { Small p }
     ensures { Pairs result (linked p) }
 {
-    let m = p.link_count as usize;
-    let links = p.links;
+    let links = &p.links[..p.link_count as usize];
     let mut pairs: u64 = 0;
-    let mut i: usize = 0;
-    while i < m {
-        let l = links[i];
-        pairs = ends(l) | pairs;
-        i += 1;
+    for link in links {
+        pairs |= ends(*link);
     }
     pairs
 }

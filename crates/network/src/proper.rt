@@ -8,10 +8,7 @@ use crate::Plan;
 pub fn is_proper(p: Plan) -> bool
     ensures { result ≡ (in_range p && not (bad_links p)) }
 {
-    if in_range(p) {
-        return !has_bad_link(p);
-    }
-    false
+    in_range(p) && !has_bad_link(p)
 }
 
 // Whether every number of the plan is in its range.
@@ -36,21 +33,17 @@ pub(crate) fn has_bad_link(p: Plan) -> bool
     requires link_count_bound { p.link_count ≤ 12 }
     ensures { result ≡ bad_links p }
 {
-    let m = p.link_count as usize;
-    let links = p.links;
+    let links = &p.links[..p.link_count as usize];
     let mut seen: u64 = 0;
-    let mut i: usize = 0;
-    while i < m {
-        let l = links[i];
-        if (l.a >= l.b) | (l.b >= p.hosts) {
+    for link in links {
+        if (link.a >= link.b) | (link.b >= p.hosts) {
             return true;
         }
-        let at = 8 * (l.a as u32) + (l.b as u32);
+        let at = 8 * (link.a as u32) + (link.b as u32);
         if (seen >> at) % 2 == 1 {
             return true;
         }
-        seen = (1u64 << at) | seen;
-        i += 1;
+        seen |= 1u64 << at;
     }
     false
 }

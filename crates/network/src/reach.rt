@@ -25,12 +25,10 @@ fn spread(joined: u64, near: u64) -> u64
     ensures { Pairs result (spreads joined (paired near)) }
 {
     let mut out = ITSELF;
-    let mut c: u32 = 0;
-    while c < 8 {
+    for c in 0..8u32 {
         let row = (near >> (8 * c)) % 256;
         let column = (joined >> c) & 0x0101_0101_0101_0101;
-        out = (row * column) | out;
-        c += 1;
+        out |= row * column;
     }
     out
 }

@@ -6,8 +6,5 @@ ghost use Rattle.network.specs.Network.{has};
 pub fn is_in(set: u32, i: u8) -> bool
     ensures { result ≡ has set i }
 {
-    if i >= 32 {
-        return false;
-    }
-    (set >> (i as u32)) % 2 == 1
+    i < 32 && (set >> (i as u32)) % 2 == 1
 }

@@ -38,7 +38,7 @@ fn hosts_out(p: Plan, links: u64, i: u8, hs: u32, survivors: u64) -> u8
     if d >= p.hosts {
         return d;
     }
-    larger(d, hosts_out(p, links, h, hs, survivors))
+    d.max(hosts_out(p, links, h, hs, survivors))
 }
 
 // The same for links: `all` are the pairs that are wanted where hosts hs are out, and `joined` those that a surviving link joins. A link that
@@ -62,11 +62,5 @@ fn links_out(p: Plan, all: u64, i: u8, ls: u32, joined: u64) -> u8
     if d >= p.hosts {
         return d;
     }
-    larger(d, links_out(p, all, l, ls, joined))
-}
-
-fn larger(x: u8, y: u8) -> u8
-    ensures { result ≡ max y x }
-{
-    if x < y { y } else { x }
+    d.max(links_out(p, all, l, ls, joined))
 }

@@ -4,7 +4,7 @@ use native.Mathlib.Omega.{arith}
 use native.Mathlib.Nat.{le_of_eq}
 use Prim.Native.Nat.{ℕ, ◌+◌, ◌-◌}
 use Rattle.host.specs.OwnLinks.{placed, ends_but}
-use Rattle.host.proofs.Sets.{placed_most, bit_most, set_most, set_turn, set_none}
+use Rattle.host.proofs.Sets.{placed_most, bit_is, bit_most, set_most, set_turn, set_none}
 use mathlib.Core.Path.{sym, ap, ◌∙◌}
 use mathlib.Core.Bool.{Bool, cond}
 use Rattle.host.proofs.links.links_but.Goals as goal
@@ -19,7 +19,7 @@ pub loop-i-preserved : goal.loop-i-preserved
 loop-i-preserved c =
     let a = c.args in
     let s = c.loop-i in
-    (search rules, set_turn (ends_but a.plan a.own a.arrival) (placed a.plan) s.i s.set c.bit.result (search rules) s.invariant.0 s.invariant.1 (c.bit.ensures ∙ ap (λ (t : Bool). cond t 1 0) c.is_end_but.ensures))
+    (search rules, set_turn (ends_but a.plan a.own a.arrival) (placed a.plan) s.i s.set c.from.result (search rules) s.invariant.0 s.invariant.1 (c.from.ensures ∙ bit_is c.is_end_but.result ∙ ap (λ (t : Bool). cond t 1 0) c.is_end_but.ensures))
 
 pub overflow_mul-set : goal.overflow_mul-set
 overflow_mul-set c =
@@ -35,4 +35,4 @@ overflow_add-set c =
     let s = c.loop-i in
     let most = placed_most a.plan in
     let small = set_most (placed a.plan - s.i) (λ (j : ℕ). ends_but a.plan a.own a.arrival (s.i + j)) (omega arith) in
-    omega (arith, bit_most c.is_end_but.result)
+    omega (arith, c.from.ensures ∙ bit_is c.is_end_but.result, bit_most c.is_end_but.result)

@@ -6,6 +6,3 @@ use Rattle.host.proofs.links.links_but.Given as goal
 
 abbrev pub invariant-loop-i : goal.invariant-loop-i
 invariant-loop-i l = (l.i ≤ placed l.plan) × (l.set ≡ set_of (placed l.plan - l.i) (λ (j : ℕ). ends_but l.plan l.own l.arrival (l.i + j)))
-
-abbrev pub decreases-loop-i : goal.decreases-loop-i
-decreases-loop-i l = l.i

@@ -1,28 +1,19 @@
--- Each turn puts one more link behind those before it. Assumes nothing.
-use borrow.Author.Rules.{rules}
+-- The first links, and the zero link behind them. Assumes nothing.
 use native.Mathlib.Omega.{arith}
-use mathlib.Core.Path.{◌≡◌, sym, ap, ◌∙◌}
-use Prim.Native.Nat.{ℕ}
-use mathlib.Core.List.{List}
-use lib.ListN.{length, take, get_or, set}
-use lib.Seq.{length-take-le, take-suc}
-use native.Mathlib.Numerals.{add-one}
-use Rattle.lists.specs.Lists.{pad}
-use Rattle.lists.proofs.Places.{pad_more}
-use Rattle.network.specs.declared.Link.{Link}
+use borrow.Author.Rules.{rules}
+use mathlib.Core.Path.{◌≡◌, ap, ap₂, sym, ◌∙◌}
+use mathlib.Core.List.{List, ◌++◌}
+use Prim.Native.Nat.{ℕ, ◌-◌}
+use lib.ListN.{length, take, replicate}
+use lib.Seq.{length-take-le}
+use Rattle.std.proofs.lemmas.List.{drop-replicate}
 use Rattle.network.specs.Network.{no_link}
+use Rattle.network.specs.declared.Link.{Link}
 use Rattle.host.proofs.making.first_links.Goals as goal
 
-pub loop-i-preserved : goal.loop-i-preserved
-loop-i-preserved c =
+pub returns : goal.returns
+returns c =
     let a = c.args in
-    let s = c.loop-i in
-    let l : List Link = take s.i a.links in
-    let x : Link = get_or a.links s.i no_link in
-    let n : length l ≡ s.i = length-take-le s.i a.links (omega arith) in (
-      search rules,
-      ap (λ (t : List Link). set t s.i x) s.invariant.1
-          ∙ ap (λ (k : ℕ). set (pad 12 no_link l) k x) (sym n)
-          ∙ pad_more 12 no_link x l (omega arith)
-          ∙ ap (λ (t : List Link). pad 12 no_link t) (sym (take-suc a.links s.i no_link (omega arith)) ∙ ap (λ (k : ℕ). take k a.links) (sym (add-one s.i))),
-    )
+    let long : length a.links ≡ 12 = search rules in
+    let few : length (take a.count a.links) ≡ a.count = length-take-le a.count a.links (omega arith) in
+    ap₂ (λ (l t : List Link). l ++ t) c.copy_from_slice.ensures.after (drop-replicate a.count 12 no_link ∙ ap (λ (k : ℕ). replicate (12 - k) no_link) (sym few))

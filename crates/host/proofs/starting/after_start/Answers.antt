@@ -1,7 +1,9 @@
 -- A state that is not sound is refused first; a refusal keeps the state; else the order is held. Assumes nothing.
 use mathlib.Core.Path.{◌≡◌, sym, ap, ◌∙◌}
 use Rattle.host.specs.declared.Refusal.TheVariants.{Unsound}
-use Rattle.host.specs.declared.SendAnswer.{SendAnswer}
+use Rattle.std.specs.Prelude.{Result}
+use Rattle.host.specs.declared.Refusal.{Refusal}
+use Rattle.host.specs.declared.Sent.{Sent}
 use Rattle.host.specs.Answers.{number, Said, says}
 use Rattle.host.specs.Start.{start_checks, start_tests, start_refusal}
 use Rattle.host.proofs.Numbers.{kept, says_refused, said_refusal}
@@ -19,18 +21,18 @@ pub start_held-requires : goal.start_held-requires
 start_held-requires c =
     let a = c.args in
     let said = start_said a.host a.u.0 a.order _ (sym c.is_sound.ensures ∙ c.if-not-is_sound.false) c.frame_of.ensures c.start_answer-answer.ensures in
-    sym (ap (λ (w : Said). w.refusal) said ∙ said_refusal (start_refusal a.host a.u.0 a.order) _ _) ∙ ap (λ (x : SendAnswer). (says x).refusal) c.in-Sent.is
+    sym (ap (λ (w : Said). w.refusal) said ∙ said_refusal (start_refusal a.host a.u.0 a.order) _ _) ∙ ap (λ (x : Result Sent Refusal). (says x).refusal) c.in-Ok.is
 
-pub returns-in-Refused : goal.returns-in-Refused
-returns-in-Refused c =
+pub returns-in-Err : goal.returns-in-Err
+returns-in-Err c =
     let a = c.args in
     let said = start_said a.host a.u.0 a.order _ (sym c.is_sound.ensures ∙ c.if-not-is_sound.false) c.frame_of.ensures c.start_answer-answer.ensures in
-    let w = c.in-Refused.refusal in
-    let e : number w ≡ start_refusal a.host a.u.0 a.order = ap (λ (x : SendAnswer). (says x).refusal) (sym c.in-Refused.is) ∙ ap (λ (w : Said). w.refusal) said ∙ said_refusal (start_refusal a.host a.u.0 a.order) _ _ in
-    (kept w _ _ _ e, ap says (sym c.in-Refused.is) ∙ said)
+    let w = c.in-Err.field-0 in
+    let e : number w ≡ start_refusal a.host a.u.0 a.order = ap (λ (x : Result Sent Refusal). (says x).refusal) (sym c.in-Err.is) ∙ ap (λ (w : Said). w.refusal) said ∙ said_refusal (start_refusal a.host a.u.0 a.order) _ _ in
+    (kept w _ _ _ e, said)
 
-pub returns-in-Sent : goal.returns-in-Sent
-returns-in-Sent c =
+pub returns-in-Ok : goal.returns-in-Ok
+returns-in-Ok c =
     let a = c.args in
     let said = start_said a.host a.u.0 a.order _ (sym c.is_sound.ensures ∙ c.if-not-is_sound.false) c.frame_of.ensures c.start_answer-answer.ensures in
-    (c.start_held.ensures, ap says (sym c.in-Sent.is) ∙ said)
+    (c.start_held.ensures, said)

@@ -6,7 +6,7 @@ use Rattle.host.proofs.Numbers.{says_sent}
 use Rattle.host.proofs.Sets.{placed_most, all_own}
 use Rattle.host.proofs.starting.start_answer.Goals as goal
 
-pub returns-in-Clear : goal.returns-in-Clear
-returns-in-Clear c =
+pub returns : goal.returns
+returns c =
     let f = c.args.frame in
-    says_sent _ _ _ _ _ (sym c.start_checks-found.ensures ∙ ap refusal_of c.in-Clear.is) (c.links_but.ensures ∙ all_own f.plan f.own (placed f.plan) (placed_most f.plan)) c.first_hop.ensures
+    says_sent _ _ _ _ (sym c.start_checks.ensures ∙ ap refusal_of c.in_ok-start_checks.was) (c.links_but.ensures ∙ all_own f.plan f.own (placed f.plan) (placed_most f.plan)) c.first_hop.ensures

@@ -2,7 +2,8 @@
 use mathlib.Core.Path.{◌≡◌, sym, ap, ◌∙◌}
 use lib.ListN.{length}
 use Rattle.host.specs.declared.Refusal.TheVariants.{Unsound}
-use Rattle.host.specs.declared.TickAnswer.{TickAnswer}
+use Rattle.std.specs.Prelude.{Result, ℕ}
+use Rattle.host.specs.declared.Refusal.{Refusal}
 use Rattle.host.specs.Answers.{number, SaidTick, says_tick}
 use Rattle.host.specs.Tick.{due_of, tick_checks, tick_tests, tick_refusal}
 use Rattle.host.proofs.Numbers.{kept, tick_refused, tick_refusal_lem}
@@ -20,19 +21,19 @@ returns-then-not-is_sound c =
 pub tick_left-requires : goal.tick_left-requires
 tick_left-requires c =
     let a = c.args in
-    let said = tick_said a.host a.u.0 (length a.out.now) _ _ (sym c.is_sound.ensures ∙ c.if-not-is_sound.false) c.frame_of.ensures c.due_count-count.ensures.0 c.tick_answer-answer.ensures in
-    sym (ap (λ (w : SaidTick). w.refusal) said ∙ tick_refusal_lem (tick_refusal a.host a.u.0 (length a.out.now)) _) ∙ ap (λ (x : TickAnswer). (says_tick x).refusal) c.in-Delivered.is
+    let said = tick_said a.host a.u.0 (length a.out.now) _ _ (sym c.is_sound.ensures ∙ c.if-not-is_sound.false) c.frame_of.ensures c.due_count-count.ensures c.tick_answer-answer.ensures in
+    sym (ap (λ (w : SaidTick). w.refusal) said ∙ tick_refusal_lem (tick_refusal a.host a.u.0 (length a.out.now)) _) ∙ ap (λ (x : Result ℕ Refusal). (says_tick x).refusal) c.in-Ok.is
 
-pub returns-in-Refused : goal.returns-in-Refused
-returns-in-Refused c =
+pub returns-in-Err : goal.returns-in-Err
+returns-in-Err c =
     let a = c.args in
-    let said = tick_said a.host a.u.0 (length a.out.now) _ _ (sym c.is_sound.ensures ∙ c.if-not-is_sound.false) c.frame_of.ensures c.due_count-count.ensures.0 c.tick_answer-answer.ensures in
-    let w = c.in-Refused.refusal in
-    let e : number w ≡ tick_refusal a.host a.u.0 (length a.out.now) = ap (λ (x : TickAnswer). (says_tick x).refusal) (sym c.in-Refused.is) ∙ ap (λ (w : SaidTick). w.refusal) said ∙ tick_refusal_lem (tick_refusal a.host a.u.0 (length a.out.now)) _ in
-    (kept w _ _ _ e, (ap says_tick (sym c.in-Refused.is) ∙ said, kept w _ _ _ e))
+    let said = tick_said a.host a.u.0 (length a.out.now) _ _ (sym c.is_sound.ensures ∙ c.if-not-is_sound.false) c.frame_of.ensures c.due_count-count.ensures c.tick_answer-answer.ensures in
+    let w = c.in-Err.field-0 in
+    let e : number w ≡ tick_refusal a.host a.u.0 (length a.out.now) = ap (λ (x : Result ℕ Refusal). (says_tick x).refusal) (sym c.in-Err.is) ∙ ap (λ (w : SaidTick). w.refusal) said ∙ tick_refusal_lem (tick_refusal a.host a.u.0 (length a.out.now)) _ in
+    (kept w _ _ _ e, (said, kept w _ _ _ e))
 
-pub returns-in-Delivered : goal.returns-in-Delivered
-returns-in-Delivered c =
+pub returns-in-Ok : goal.returns-in-Ok
+returns-in-Ok c =
     let a = c.args in
-    let said = tick_said a.host a.u.0 (length a.out.now) _ _ (sym c.is_sound.ensures ∙ c.if-not-is_sound.false) c.frame_of.ensures c.due_count-count.ensures.0 c.tick_answer-answer.ensures in
-    (c.tick_left.ensures.value, (ap says_tick (sym c.in-Delivered.is) ∙ said, c.tick_left.ensures.out_after))
+    let said = tick_said a.host a.u.0 (length a.out.now) _ _ (sym c.is_sound.ensures ∙ c.if-not-is_sound.false) c.frame_of.ensures c.due_count-count.ensures c.tick_answer-answer.ensures in
+    (c.tick_left.ensures.value, (said, c.tick_left.ensures.out_after))

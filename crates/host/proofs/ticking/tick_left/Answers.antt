@@ -2,7 +2,9 @@
 use borrow.Author.Rules.{rules}
 use mathlib.Core.Path.{◌≡◌, sym, ◌∙◌}
 use borrow.Author.Tests.{eqb-true}
+use native.Mathlib.Omega.{arith}
 use lib.ListN.{length}
+use lib.Seq.{length-take-le}
 use Rattle.host.specs.Tick.{due_of}
 use Rattle.host.proofs.Facts.{tick_is, is_sound}
 use Rattle.host.proofs.Fronts.{idle, none_written}
@@ -13,11 +15,19 @@ is_idle-requires c =
     let a = c.args in
     is_sound a.host (tick_is a.host a.u.0 (length a.out.now) c.requires).sound
 
+pub shared_ref_as_front-held : goal.shared_ref_as_front-held
+shared_ref_as_front-held c =
+    let a = c.args in
+    (tick_is a.host a.u.0 (length a.out.now) c.requires).sound.held
+
 pub deliver-left-requires : goal.deliver-left-requires
 deliver-left-requires c =
     let a = c.args in
     let k = tick_is a.host a.u.0 (length a.out.now) c.requires in
-    (k.sound.held, k.fits)
+    let few = k.sound.held in
+    let n : length a.host.history ≡ 32 = search rules in
+    let long = length-take-le a.host.held a.host.history (omega arith) in
+    (omega arith, k.fits)
 
 pub returns-then-is_idle : goal.returns-then-is_idle
 returns-then-is_idle c =

@@ -1,27 +1,27 @@
 -- Field by field from the front, the first verdict that is wrong is the first fault. Assumes nothing.
-use mathlib.Core.Path.{◌∙◌}
-use borrow.Author.Tests.{eq-eqb, ne_eqb}
-use Rattle.message.proofs.ReadLaws.{stamp_wrong, source_wrong, past_source, hop_wrong, order_second, order_first}
+use mathlib.Core.Path.{ap, ◌∙◌}
+use Rattle.fields.specs.Faults.{first}
+use Rattle.message.specs.Layout.{ending}
+use Rattle.message.proofs.ReadLaws.{handed_on, past_stamp, past_source, past_hop}
 use Rattle.message.proofs.reading.judge.Goals as goal
 
-pub returns-in-Wrong : goal.returns-in-Wrong
-returns-in-Wrong c = stamp_wrong c.args.rules c.args.bytes.now _ c.slot_fault-stamp.ensures _ c.in-Wrong.is
+pub returns-in_err-judge_slot : goal.returns-in_err-judge_slot
+returns-in_err-judge_slot c = handed_on _ _ _ c.from_residual.result c.in_err-judge_slot.ensures c.from_residual.ensures.1
 
-pub returns-in-Wrong-source : goal.returns-in-Wrong-source
-returns-in-Wrong-source c =
-    source_wrong c.args.rules c.args.bytes.now _ c.slot_fault-stamp.ensures c.in_default.is _ c.slot_fault-source.ensures _ c.in-Wrong-source.is
+pub returns-in_err-judge_slot-2 : goal.returns-in_err-judge_slot-2
+returns-in_err-judge_slot-2 c =
+    let r = c.from_residual-in_err-judge_slot-2 in
+    handed_on _ _ _ r.result c.in_err-judge_slot-2.ensures r.ensures.1 ∙ past_stamp c.args.rules c.args.bytes.now c.in_ok-judge_slot.ensures
 
-pub returns-in-Wrong-hop : goal.returns-in-Wrong-hop
-returns-in-Wrong-hop c =
-    let past = past_source c.args.rules c.args.bytes.now _ c.slot_fault-stamp.ensures c.in_default.is _ c.slot_fault-source.ensures c.in_default-source.is in
-    hop_wrong c.args.rules c.args.bytes.now past (eq-eqb _ _ c.if-rules-eq2.true) _ c.slot_fault-hop.ensures _ c.in-Wrong-hop.is
-
-pub returns-then-rules-eq2 : goal.returns-then-rules-eq2
-returns-then-rules-eq2 c =
-    let past = past_source c.args.rules c.args.bytes.now _ c.slot_fault-stamp.ensures c.in_default.is _ c.slot_fault-source.ensures c.in_default-source.is in
-    c.judge_order.ensures ∙ order_second c.args.rules c.args.bytes.now past (eq-eqb _ _ c.if-rules-eq2.true) _ c.slot_fault-hop.ensures c.in_default-hop.is
+pub returns-in_err-judge_hop : goal.returns-in_err-judge_hop
+returns-in_err-judge_hop c =
+    let r = c.from_residual-in_err-judge_hop in
+    handed_on _ _ _ r.result c.in_err-judge_hop.ensures r.ensures.1
+    ∙ past_source c.args.rules c.args.bytes.now c.in_ok-judge_slot.ensures c.in_ok-judge_slot-2.ensures
 
 pub returns : goal.returns
 returns c =
-    let past = past_source c.args.rules c.args.bytes.now _ c.slot_fault-stamp.ensures c.in_default.is _ c.slot_fault-source.ensures c.in_default-source.is in
-    c.judge_order-2.ensures ∙ order_first c.args.rules c.args.bytes.now past (ne_eqb _ _ c.if-rules-eq2.false)
+    let bs = c.args.bytes.now in
+    c.judge_order.ensures
+    ∙ ap (λ at. first (ending bs at)) c.order_place.ensures
+    ∙ past_hop c.args.rules bs c.in_ok-judge_slot.ensures c.in_ok-judge_slot-2.ensures c.in_ok-judge_hop.ensures

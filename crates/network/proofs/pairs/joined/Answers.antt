@@ -1,27 +1,41 @@
 -- The invariant: the pairs of the links passed. Assumes nothing.
-use mathlib.Core.Path.{sym, ap₂, ◌∙◌}
+use mathlib.Core.Path.{sym, ap, ap₂, ◌∙◌}
 use mathlib.Core.Bool.{Bool, ◌||◌}
 use Prim.Native.Nat.{ℕ}
+use native.Mathlib.Omega.{arith}
 use borrow.Author.Rules.{rules}
 use Rattle.lists.specs.Searches.{some}
-use Rattle.lists.proofs.SearchLaws.{some_start, some_more, at_end}
+use Rattle.lists.proofs.SearchLaws.{some_start, some_more}
 use Rattle.network.specs.Network.{link}
 use Rattle.network.specs.Inside.{pair, joins, linked}
-use Rattle.network.proofs.Bits.{has_none, has_or}
+use Rattle.network.specs.declared.Link.{Link}
+use Rattle.network.proofs.Bits.{has_none, has_more}
+use Rattle.network.proofs.Links.{is_place, is_link, past_links}
 use Rattle.network.proofs.pairs.joined.Goals as goal
 
-pub loop-i-init : goal.loop-i-init
-loop-i-init c = (search rules, λ a b ha hb. has_none _ ∙ sym (some_start _))
+pub loop-link-init : goal.loop-link-init
+loop-link-init c = λ a b ha hb. has_none _ ∙ sym (some_start _)
 
-pub loop-i-preserved : goal.loop-i-preserved
-loop-i-preserved c = (
-  search rules,
-  λ a b ha hb.
-      has_or _ c.loop-i.pairs (pair a b) ∙ ap₂ (λ (s t : Bool). s || t) (c.ends-pairs.ensures a b ha hb) (c.loop-i.invariant.1 a b ha hb) ∙ sym (some_more (λ j. joins (link c.args.p j) a b) c.loop-i.i),
-)
+pub ends-pairs-requires : goal.ends-pairs-requires
+ends-pairs-requires c =
+    let p = c.args.p in
+    let e = c.requires.ends c.loop-link.link-index (is_place p (search rules) _ c.loop-link-test.true) in
+    let hosts = c.requires.hosts in
+    let here = is_link p (search rules) _ c.loop-link-test.true in
+    rw here (omega (arith, e.0, e.1), omega (arith, e.1))
+
+pub loop-link-preserved : goal.loop-link-preserved
+loop-link-preserved c =
+    λ a b ha hb.
+    let s = c.loop-link in
+    let here = is_link c.args.p (search rules) _ c.loop-link-test.true in
+    has_more s.pairs _ (pair a b)
+    ∙ ap₂ (λ (x y : Bool). x || y) (c.ends-pairs.ensures a b ha hb ∙ ap (λ (l : Link). joins l a b) here) (s.invariant a b ha hb)
+    ∙ sym (some_more (λ j. joins (link c.args.p j) a b) s.link-index)
 
 pub returns : goal.returns
 unfolding linked
 returns c =
     λ a b ha hb.
-    at_end (λ (k : ℕ). some k (λ j. joins (link c.args.p j) a b)) c.loop-i.invariant.0 c.loop-i-test.false (c.loop-i.invariant.1 a b ha hb)
+    let s = c.loop-link in
+    s.invariant a b ha hb ∙ ap (λ (k : ℕ). some k (λ j. joins (link c.args.p j) a b)) (past_links c.args.p (search rules) _ s.auto.link-index-end c.loop-link-test.false)

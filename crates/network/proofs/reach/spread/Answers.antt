@@ -9,7 +9,7 @@ use Rattle.lists.proofs.Bools.{or_swap}
 use Rattle.lists.proofs.SearchLaws.{some_start, some_more, at_end}
 use Rattle.network.specs.Network.{has}
 use Rattle.network.specs.Inside.{pair, spreads}
-use Rattle.network.proofs.Bits.{has_or}
+use Rattle.network.proofs.Bits.{has_more}
 use Rattle.network.proofs.PairLaws.{itself}
 use Rattle.network.proofs.Rows.{row_has}
 use Rattle.network.proofs.reach.spread.Goals as goal
@@ -24,7 +24,7 @@ loop-c-preserved c =
       search rules,
       λ a b ha hb.
           let by : ℕ → Bool = λ d. has g.joined (pair a d) && has g.near (pair d b) in
-          has_or _ s.out (pair a b)
+          has_more s.out _ (pair a b)
           ∙ ap₂ (λ (x y : Bool). x || y) (row_has g.near g.joined a b s.c ha hb) (s.invariant.1 a b ha hb)
           ∙ or_swap (by s.c) (eqb a b) (some s.c by)
           ∙ ap (λ (t : Bool). eqb a b || t) (sym (some_more by s.c)),

@@ -1,6 +1,6 @@
 -- The invariant: in the set are each host with itself, and what the rows passed have put in. Assumes nothing.
 use mathlib.Core.Bool.{◌&&◌, ◌||◌}
-use Prim.Native.Nat.{◌-◌, ◌≤◌}
+use Prim.Native.Nat.{◌≤◌}
 use lib.Dec.{eqb}
 use Rattle.lists.specs.Searches.{some}
 use Rattle.network.specs.Network.{has}
@@ -9,6 +9,3 @@ use Rattle.network.proofs.reach.spread.Given as goal
 
 abbrev pub invariant-loop-c : goal.invariant-loop-c
 invariant-loop-c l = (l.c ≤ 8) × Pairs l.out (λ a b. eqb a b || some l.c (λ d. has l.joined (pair a d) && has l.near (pair d b)))
-
-abbrev pub decreases-loop-c : goal.decreases-loop-c
-decreases-loop-c l = 8 - l.c

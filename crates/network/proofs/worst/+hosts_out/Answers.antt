@@ -51,4 +51,4 @@ returns _ c =
     let g = c.args in
     let hosts = c.requires.small.hosts in
     let s = turn g.i (n g.p) (π g.p) g.hs c.requires.upper c.if-i-hs.false (omega arith) in
-    meets s (at_hosts g.p) c.larger.ensures c.hosts_out-d.ensures c.hosts_out.ensures
+    meets s (at_hosts g.p) c.max.ensures c.hosts_out-d.ensures c.hosts_out.ensures

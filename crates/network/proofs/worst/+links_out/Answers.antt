@@ -70,4 +70,4 @@ returns _ c =
     let g = c.args in
     let s = turn g.i (m g.p) (L g.p) g.ls c.requires.upper c.if-i-ls.false c.requires.small.links in
     let left = link_less g.p c.requires.small hs (g.i - 1) s.place g.ls _ g.joined c.ends-pairs.result s.top s.not_in (search rules) is c.ends-pairs.ensures in
-    meets s (at_links g.p hs) c.larger.ensures (c.links_out-d.ensures hs all left) (c.links_out-2.ensures hs all is)
+    meets s (at_links g.p hs) {x = c.links_out-d.result} {y = c.links_out-2.result} (search rules) (c.links_out-d.ensures hs all left) (c.links_out-2.ensures hs all is)

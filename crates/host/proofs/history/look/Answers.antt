@@ -1,8 +1,0 @@
--- What is left to look at is the list; each turn looks at its first. Assumes nothing.
-use borrow.Author.Rules.{rules}
-use Rattle.lists.proofs.Looks.{look_turn}
-use Rattle.host.specs.State.{no_held}
-use Rattle.host.proofs.history.look.Goals as goal
-
-pub loop-i-preserved : goal.loop-i-preserved
-loop-i-preserved c = look_turn no_held c.loop-i.invariant (search rules) (search rules) c.has_name-here.ensures c.same-alike.ensures
