@@ -1,5 +1,5 @@
 -- Lists: tests of their elements, order, and the places of an array. Assumes nothing.
-use Rattle.std.specs.Prelude.{Bool, true, false, cond, ◌&&◌, ◌||◌, List, [], ◌∷◌, ◌++◌, ℕ, zero, suc, ◌+◌, ◌-◌, length, take, drop, replicate, ltb}
+use Rattle.std.specs.Prelude.{Option, Some, None, Bool, true, false, cond, ◌&&◌, ◌||◌, List, [], ◌∷◌, ◌++◌, ℕ, zero, suc, ◌+◌, ◌-◌, length, take, drop, replicate, ltb}
 
 module _ {A : Type 0} where
   -- the test passes for every element
@@ -21,6 +21,11 @@ module _ {A : Type 0} where
   rising r [] = true
   rising r (x ∷ l) = rising_from r x l
 
+  -- it may come next: there is none before it, or that one stands in the relation to it
+  abbrev pub follows : (A → A → Bool) → Option A → A → Bool
+  follows r None x = true
+  follows r (Some w) x = r w x
+
   -- the list with x put in before the first element that the relation puts it before
   abbrev pub insert : (A → A → Bool) → A → List A → List A
   insert r x [] = x ∷ []
@@ -39,6 +44,11 @@ module _ {A : Type 0} where
   abbrev pub keep : (A → Bool) → List A → List A
   keep p [] = []
   keep p (x ∷ l) = cond (p x) (x ∷ keep p l) (keep p l)
+
+  -- the elements in front that pass the test, up to the first that fails it
+  abbrev pub lead : (A → Bool) → List A → List A
+  lead p [] = []
+  lead p (x ∷ l) = cond (p x) (x ∷ lead p l) []
 
   -- the list in an array of n places, each unused place the blank z
   abbrev pub pad : ℕ → A → List A → List A
