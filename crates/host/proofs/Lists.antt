@@ -1,13 +1,19 @@
 -- std's words for lists, and numbers in bytes, are those of the definitions. Assumes nothing.
 use mathlib.Core.Path.{◌≡◌, refl, sym, ap, ap₂, ◌∙◌}
-use mathlib.Core.Bool.{Bool, cond, ◌&&◌}
+use mathlib.Core.Bool.{Bool, true, false, cond, ◌&&◌}
 use mathlib.Core.List.{List, [], ◌∷◌, ◌++◌}
-use Prim.Native.Nat.{ℕ, zero, suc, ◌/◌, ◌%◌, ◌^◌}
+use Prim.Native.Nat.{ℕ, zero, suc, ◌-◌, ◌/◌, ◌%◌, ◌^◌, ◌≤◌, ◌<◌, min}
+use borrow.Author.Tests.{leb-true, leb-false}
+use lib.Dec.{leb}
+use lib.ListN.{length, take, drop, length-drop}
+use lib.Seq.{take_all}
+use native.Mathlib.Omega.{arith}
 use native.Mathlib.Nat.{pow-succ', div-div-eq-div-mul}
 use Rattle.std.specs.Int.{byte_at, bytes_high_first}
 use Rattle.std.specs.List.{list_all, filter}
 use Rattle.lists.specs.Bytes.{be}
 use Rattle.lists.specs.Lists.{all, keep}
+use Rattle.lists.proofs.Loops.{left_none}
 
 pub all_same : {A : Type 0} (p : A → Bool) (l : List A) → list_all p l ≡ all p l
 all_same p [] = refl
@@ -16,6 +22,17 @@ all_same p (x ∷ l) = ap (λ (t : Bool). p x && t) (all_same p l)
 pub keep_same : {A : Type 0} (p : A → Bool) (l : List A) → filter p l ≡ keep p l
 keep_same p [] = refl
 keep_same {A} p (x ∷ l) = ap (λ (t : List A). cond (p x) (x ∷ t) t) (keep_same p l)
+
+-- the places from used on, where there are so many
+pub rest_same : {A : Type 0} (N used m : ℕ) (l : List A) → length l ≡ N → m ≡ min used N → take (N - m) (drop m l) ≡ drop used l
+rest_same {A} N used m l n e =
+    let d = length-drop m l in
+    let long : length (drop m l) ≤ N - m = omega arith in
+    take_all (N - m) (drop m l) long ∙ go (leb used N) refl
+  where
+    go : (t : Bool) → leb used N ≡ t → drop m l ≡ drop used l
+    go true t = let h : used ≤ N = leb-true _ _ t in let k : m ≡ used = omega arith in ap (λ (i : ℕ). drop i l) k
+    go false t = let h : N < used = leb-false _ _ t in let k : length l ≤ m = omega arith in let j : length l ≤ used = omega arith in left_none l m k ∙ sym (left_none l used j)
 
 -- a byte of a number is one of its quotient by 256
 byte_up : (k x : ℕ) → byte_at k (x / 256) ≡ byte_at (suc k) x

@@ -11,7 +11,11 @@ pub(crate) fn put_entry(out: &mut [u8], at: usize, e: Held)
     requires { at + 16 ≤ length out.old }
     ensures { out.new ≡ paste out.old at (entry_of e) 16 }
 {
-    out[at..at + 16].copy_from_slice(&entry(e));
+    let bytes = entry(e);
+    // copy_from_slice was tried, and is slower.
+    for j in 0..16 {
+        out[at + j] = bytes[j];
+    }
 }
 
 // The bytes of a held order.

@@ -12,6 +12,7 @@ use crate::history::is_due;
 use crate::sound::{frame_of, is_sound};
 use crate::states::{at_reading, later};
 use crate::unused::no_held;
+use crate::walks::due_in_front;
 use crate::{Frame, Held, Host, Refusal, Ticked};
 use clock::{Reading, is_reading};
 
@@ -74,16 +75,12 @@ pub(crate) struct Rest {
     pub history: [Held; 32],
 }
 
-// How many orders are due.
+// How many orders are due: they stand in front, since stamps rise.
 fn due_count(host: Host, u: Reading) -> usize
     requires { sound host ≡ true }
     ensures { result ≡ length (due_of host u.0) }
 {
-    if is_idle(host, u) {
-        return 0;
-    }
-    let held = &host.history[..host.held];
-    count_due(held, host.bound, u)
+    due_in_front(&host.history[..host.held], host.bound, u)
 }
 
 // Whether nothing is due: the first of those held is due before all others.
@@ -93,13 +90,6 @@ fn is_idle(host: Host, u: Reading) -> bool
 {
     let first = host.history[0];
     (host.held == 0) | !is_due(first, host.bound, u)
-}
-
-// How many of those held are due.
-fn count_due(history: &[Held], bound: u64, u: Reading) -> usize
-    ensures { result ≡ length (due_in bound u.0 history.now) }
-{
-    history.iter().filter(|e| is_due(**e, bound, u)).count()
 }
 
 // Writes the entries of those that are due from the front of the lent list, and keeps the others.

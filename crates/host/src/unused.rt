@@ -6,7 +6,7 @@ ghost use Rattle.host.specs.State.{no_held, is_no_link, is_no_reading, is_no_hel
 use crate::Held;
 use clock::Reading;
 use network::Link;
-use orders::{Order, same};
+use orders::Order;
 
 pub(crate) fn no_held() -> Held
     ensures { result ≡ no_held }
@@ -22,7 +22,7 @@ pub(crate) fn no_held() -> Held
 pub(crate) fn links_unused(links: [Link; 12], used: usize) -> bool
     ensures { result ≡ all is_no_link (drop used links) }
 {
-    links.iter().skip(used).all(|l| is_no_link(*l))
+    links[used.min(12)..].iter().all(|l| is_no_link(*l))
 }
 
 fn is_no_link(l: Link) -> bool
@@ -35,7 +35,7 @@ fn is_no_link(l: Link) -> bool
 pub(crate) fn starts_unused(starts: [Reading; 4], used: usize) -> bool
     ensures { result ≡ all is_no_reading (drop used starts) }
 {
-    starts.iter().skip(used).all(|s| is_no_reading(*s))
+    starts[used.min(4)..].iter().all(|s| is_no_reading(*s))
 }
 
 fn is_no_reading(s: Reading) -> bool
@@ -47,6 +47,5 @@ fn is_no_reading(s: Reading) -> bool
 pub(crate) fn is_no_held(e: Held) -> bool
     ensures { result ≡ is_no_held e }
 {
-    let order = e.order;
-    (e.stamp.0 == 0) & (e.source == 0) & same(order, Order::Publish { image: 0, share: 0 })
+    (e.stamp.0 == 0) & (e.source == 0) & matches!(e.order, Order::Publish { image: 0, share: 0 })
 }
