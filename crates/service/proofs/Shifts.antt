@@ -1,12 +1,11 @@
 -- The places of an array moved to the front. Assumes nothing.
 use mathlib.Core.Path.{◌≡◌, sym, ap, ap₂, ◌∙◌}
-use mathlib.Core.List.{List, [], ◌∷◌, ◌++◌, append-nil}
-use Prim.Native.Nat.{ℕ, suc, ◌+◌, ◌-◌, ◌≤◌}
+use mathlib.Core.List.{List, [], ◌++◌, append-nil}
+use Prim.Native.Nat.{ℕ, ◌+◌, ◌-◌, ◌≤◌}
 use native.Mathlib.Nat.{zero-add}
-use native.Mathlib.Numerals.{add-one}
 use native.Mathlib.Omega.{arith}
-use lib.ListN.{length, length-append, length-drop, take, drop, get_or, set, replicate, drop_of_length-le}
-use lib.Seq.{length-take-le, take_all, take-suc, drop-cons, append_snoc, set_at, take_at, take-append-add, paste}
+use lib.ListN.{length, length-append, length-drop, take, drop, replicate, drop_of_length-le}
+use lib.Seq.{length-take-le, take_at, paste}
 use borrow.Rule.Slice.PartMut.{put_mid}
 use Rattle.std.proofs.lemmas.Slice.{between_is}
 use Rattle.lists.specs.Lists.{pad}

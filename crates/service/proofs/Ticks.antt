@@ -15,7 +15,7 @@ use Rattle.host.specs.declared.Held.{Held}
 use Rattle.host.specs.declared.Host.{Host}
 use Rattle.host.specs.Answers.{SaidTick}
 use Rattle.host.specs.State.{Sized}
-use Rattle.host.specs.Tick.{due_of, written, tick_refusal, tick_says, tick_list, after_tick}
+use Rattle.host.specs.Tick.{due_of, written, tick_refusal, tick_says, tick_list}
 use Rattle.host.specs.Calls.{ticks}
 use Rattle.host.proofs.Facts.{tick_is}
 use Rattle.host.proofs.Fronts.{idle, none_written}

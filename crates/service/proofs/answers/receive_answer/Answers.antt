@@ -1,9 +1,7 @@
 -- Memory that stands for no sound state is refused 9; else the host's own answer is taken, by the frame and what is held under the name. Assumes nothing.
 use mathlib.Core.Path.{sym, ap, ◌∙◌}
-use mathlib.Core.List.{List}
 use Rattle.std.specs.Prelude.{Err}
 use Rattle.lists.specs.Lists.{any}
-use Rattle.host.specs.declared.Held.{Held}
 use Rattle.host.specs.declared.Refusal.TheVariants.{Unsound}
 use Rattle.host.specs.Answers.{says}
 use Rattle.host.specs.State.{held_of, same_name}
@@ -37,8 +35,7 @@ returns c =
     let x = a.copy in
     let good = framed_is h c.sound_frame.ensures c.in_ok-frame.was in
     let seen = c.look-seen.ensures in
-    receive_said h a.u.0 a.link a.hop x _ _ _ _ good.0 good.1
-    (
+    receive_said h a.u.0 a.link a.hop x _ _ _ _ good.0 good.1 (
       seen.same_value ∙ ap (any (same_held x)) (sym (held_in f)),
       (seen.other_value ∙ ap (any (other_held x)) (sym (held_in f)), seen.named_value ∙ ap (any (same_name x)) (sym (held_in f))),
     )

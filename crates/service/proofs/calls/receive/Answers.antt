@@ -1,7 +1,6 @@
 -- An accepted copy stands in its place among those held, and nothing else changes but the last reading. Assumes nothing.
 use borrow.Author.Rules.{rules}
 use mathlib.Core.Path.{◌≡◌, sym, ap, ◌∙◌}
-use Prim.Native.Nat.{ℕ}
 use Rattle.host.specs.Answers.{Said}
 use Rattle.host.specs.Receive.{receive_refusal}
 use Rattle.host.proofs.Facts.{receive_is}

@@ -2,12 +2,12 @@
 use borrow.Author.Rules.{rules}
 use native.Mathlib.Omega.{arith}
 use mathlib.Core.Path.{◌≡◌, sym, ap, ap₂, ◌∙◌}
-use mathlib.Core.Bool.{Bool, true, ◌&&◌}
+use mathlib.Core.Bool.{true}
 use mathlib.Core.List.{List, ◌++◌}
 use Prim.Native.Nat.{ℕ, ◌+◌, ◌-◌}
 use lib.ListN.{length, length-drop, take, drop, get_or, replicate}
 use lib.Seq.{length-take-le}
-use Rattle.lists.specs.Lists.{all, insert, pad}
+use Rattle.lists.specs.Lists.{all, insert}
 use Rattle.lists.proofs.Bools.{and_right}
 use Rattle.lists.proofs.Loops.{left_next}
 use Rattle.lists.proofs.Places.{blanks, length_insert}

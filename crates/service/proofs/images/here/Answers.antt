@@ -1,7 +1,6 @@
 -- The image stands at its place, or a larger one does, or no place is left. Assumes nothing.
 use borrow.Author.Rules.{rules}
 use mathlib.Core.Path.{sym, ap, ◌∙◌}
-use native.Mathlib.Omega.{arith}
 use lib.ListN.{length-map}
 use Rattle.board.specs.declared.Place.{Place}
 use Rattle.board.proofs.Placing.{stands_here, absent_here}

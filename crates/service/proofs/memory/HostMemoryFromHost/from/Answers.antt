@@ -2,14 +2,12 @@
 use borrow.Author.Rules.{rules}
 use borrow.Author.Tests.{tests}
 use native.Mathlib.Omega.{arith}
-use mathlib.Core.Path.{◌≡◌, sym, ap, ap₂, ◌∙◌}
+use mathlib.Core.Path.{◌≡◌, sym, ◌∙◌}
 use mathlib.Core.List.{List, map}
-use Prim.Native.Nat.{ℕ}
 use lib.ListN.{length, length-map, get_or, get_or-map}
 use lib.Seq.{ext_get_or}
 use Rattle.host.specs.State.{no_held}
 use Rattle.host.specs.declared.Held.{Held}
-use Rattle.service.specs.declared.HeldMemory.{HeldMemory}
 use Rattle.service.specs.Memory.{held_memory}
 use Rattle.service.proofs.memory.HostMemoryFromHost.from.Goals as goal
 

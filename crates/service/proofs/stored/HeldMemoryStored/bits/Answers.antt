@@ -1,5 +1,5 @@
 -- The stamp, and the other bytes, are 0 just where the place is unused. Assumes nothing.
-use mathlib.Core.Path.{◌≡◌, sym, ap, ◌∙◌}
+use mathlib.Core.Path.{sym, ap, ◌∙◌}
 use mathlib.Core.Bool.{Bool, ◌&&◌, and_assoc}
 use lib.Dec.{eqb}
 use Rattle.lists.proofs.Zeros.{or_zero}
