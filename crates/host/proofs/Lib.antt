@@ -12,6 +12,8 @@ pub mod Fresh
 pub mod Names
 pub mod Fronts
 pub mod Keeps
+pub mod Owns
+pub mod Sounds
 pub mod Outcomes
 pub mod Refusals
 pub mod AsPublished

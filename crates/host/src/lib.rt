@@ -12,8 +12,10 @@ mod sound;
 mod starting;
 mod starts;
 mod states;
+mod stored;
 mod ticking;
 mod unused;
+mod walks;
 
 pub use checks::number_of;
 use clock::Reading;
@@ -26,7 +28,9 @@ pub use receiving::{after_receive, receive_answer};
 pub use sound::{is_framed, is_sound};
 pub use starting::{after_start, start_answer};
 pub use starts::{newest, one_more, with_start};
+pub use stored::Stored;
 pub use ticking::{after_tick, tick_answer};
+pub use walks::{due_in_front, is_sound_in, look};
 
 // An order under its name, which is its stamp and its source.
 #[derive(Clone, Copy)]

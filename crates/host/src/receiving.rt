@@ -7,10 +7,11 @@ ghost use Rattle.host.specs.OwnLinks.{set_of, placed, ends_but};
 ghost use Rattle.host.specs.Receive.{in_plan, copy_fits, early, late, receive_checks, receive_refusal, relay_hop, receive_answer, receive_says, receive_host};
 
 use crate::checks::refuse_if;
-use crate::history::{is_due, look, with_held};
+use crate::history::{is_due, with_held};
 use crate::links::{is_end, links_but};
 use crate::sound::{frame_of, is_sound};
 use crate::states::at_reading;
+use crate::walks::look;
 use crate::{Acted, Frame, Held, Host, Refusal, Seen, Sent};
 use clock::{Reading, is_reading, is_stamp, reached};
 use network::Plan;

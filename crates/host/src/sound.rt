@@ -2,9 +2,9 @@
 ghost use Rattle.std.specs.Prelude.{◌≡◌};
 ghost use Rattle.host.specs.State.{bare, frame_of, framed, sound};
 
-use crate::history::is_history;
-use crate::starts::{newest, starts_passed, starts_rise};
+use crate::starts::{starts_passed, starts_rise};
 use crate::unused::{links_unused, starts_unused};
+use crate::walks::is_sound_in;
 use crate::{Frame, Host};
 use network::{bound, is_proper};
 use orders::is_rules;
@@ -13,22 +13,7 @@ use orders::is_rules;
 pub fn is_sound(host: Host) -> bool
     ensures { result ≡ sound host }
 {
-    let frame = frame_of(host);
-    if !is_framed(frame) {
-        return false;
-    }
-    let plan = host.plan;
-    let starts = host.starts;
-    let started = host.started;
-    let last_start = newest(starts, started);
-    is_history(
-        &host.history,
-        host.held,
-        plan.hosts,
-        host.own,
-        started,
-        last_start,
-    )
+    is_sound_in(frame_of(host), &host.history)
 }
 
 // A state but for its history.

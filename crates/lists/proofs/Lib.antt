@@ -6,12 +6,17 @@ pub mod SearchLaws
 pub mod CountLaws
 pub mod MemberLaws
 pub mod Loops
+pub mod Maps
 pub mod Walks
 pub mod Histories
+pub mod Zeros
+pub mod Steps
 pub mod Looks
 pub mod Places
 pub mod Listing
 pub mod Order
 pub mod Listed
 pub mod Rises
+pub mod Leads
+pub mod Ranks
 pub mod ByteLaws

@@ -21,6 +21,10 @@ module _ {A : Type 0} (l : List A) where
   pub left_none : (i : ℕ) → length l ≤ i → drop i l ≡ []
   left_none i h = drop_of_length-le l {i = i} h
 
+  -- x is the element that stands there
+  pub item_next : {x : A} {i : ℕ} → i < length l → x ≡ get_or l i x → drop i l ≡ x ∷ drop (i + 1) l
+  item_next {x} {i} h e = left_next x i h ∙ ap (λ (y : A). y ∷ drop (i + 1) l) (sym e)
+
   -- of the first n, from i on
   module _ (n : ℕ) (fits : n ≤ length l) where
     pub first_next : (d : A) (i : ℕ) → i < n → drop i (take n l) ≡ get_or l i d ∷ drop (i + 1) (take n l)

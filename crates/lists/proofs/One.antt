@@ -1,6 +1,10 @@
 -- Each promise admits one result only: it is an equation with a definition, and where it is of an answer's numbers, those are one-to-one.
 -- Assumes nothing.
 use mathlib.Core.Path.{◌≡◌, sym, ap, ◌∙◌}
+use mathlib.Core.Bool.{Bool}
+use mathlib.Core.List.{List}
+use Prim.Native.Nat.{ℕ}
+use Rattle.lists.specs.Lists.{put_in}
 
 -- a number, a truth, a list or a state that the promise names
 pub one_result : {A : Type 0} {defined r s : A} → r ≡ defined → s ≡ defined → r ≡ s
@@ -14,3 +18,8 @@ one_answer says back leads r s x y = sym (leads r) ∙ ap back (one_result x y) 
 pub one_call : {S A B : Type 0} (says : A → B) (back : B → A) → ((a : A) → back (says a) ≡ a) → {left : S} {defined : B} (g h : S) (r s : A)
     → (g ≡ left) × (says r ≡ defined) → (h ≡ left) × (says s ≡ defined) → (g ≡ h) × (r ≡ s)
 one_call says back leads g h r s x y = (one_result x.0 y.0, one_answer says back leads r s x.1 y.1)
+
+-- ---- the promise of each public function
+
+pub insert_one : {A : Type 0} (before : A → A → Bool) (used : ℕ) (x : A) (entries new other : List A) → new ≡ put_in before x used entries → other ≡ put_in before x used entries → new ≡ other
+insert_one before used x entries new other = one_result

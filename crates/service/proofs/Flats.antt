@@ -27,7 +27,7 @@ use Rattle.service.specs.declared.HeldMemory.{HeldMemory}
 use Rattle.service.specs.declared.HostMemory.{HostMemory}
 use Rattle.service.specs.Memory.{held_from, own_from, host_from, held_memory, host_memory}
 use Rattle.service.specs.Inside.{memory_with, before_in, unused_in, named_in, same_in, other_in, due_in, waits_in, none}
-use Rattle.service.proofs.Maps.{take_map, drop_map, all_of_lem, any_of, rising_of, keep_of, insert_of, pad_of}
+use Rattle.lists.proofs.Maps.{take_map, drop_map, all_of_lem, any_of, rising_of, keep_of, insert_of, pad_of}
 use Rattle.service.proofs.Back.{all_hold, low, held_back, places_there, own_there}
 
 module _ (f : HostMemory) where

@@ -2,7 +2,6 @@
 mod Zeros
 mod Forms
 mod Converts
-mod Maps
 mod Lefts
 pub mod Back
 mod Ticks

@@ -22,7 +22,7 @@ use Rattle.service.specs.declared.BoardMemory.{BoardMemory}
 use Rattle.service.specs.Memory.{place_from, board_from, place_memory, board_memory}
 use Rattle.service.specs.Calls.{order_left}
 use Rattle.service.specs.Inside.{place_fits_in, in_front, blank_in, no_place}
-use Rattle.service.proofs.Maps.{take_map, drop_map, all_of_lem, rising_of, all_parts, map_there, cut_of, put_of, set_of_lem}
+use Rattle.lists.proofs.Maps.{take_map, drop_map, all_of_lem, rising_of, all_parts, map_there, cut_of, put_of, set_of_lem}
 use Rattle.service.proofs.Standing.{standing, place_there}
 
 pub sound_in : (f : BoardMemory) → sound (board_from f)

@@ -16,7 +16,7 @@ use Rattle.service.specs.declared.HeldMemory.{HeldMemory}
 use Rattle.service.specs.declared.HostMemory.{HostMemory}
 use Rattle.service.specs.Memory.{held_from, host_from}
 use Rattle.service.specs.Inside.{state_in, fits_in, before_in, started_in, unused_in}
-use Rattle.service.proofs.Maps.{take_map, drop_map, all_of_lem, rising_of}
+use Rattle.lists.proofs.Maps.{take_map, drop_map, all_of_lem, rising_of}
 
 module _ (g : Frame) (l : List HeldMemory) where
   abbrev h : Host

@@ -1,15 +1,13 @@
 -- Planning's refusals come first, with their numbers; then 23 and 15 are asked. Δ and d are planning's. Assumes nothing.
 use mathlib.Core.Path.{◌≡◌, sym, ap, ◌∙◌}
 use mathlib.Core.Bool.{not}
-use Rattle.std.specs.Prelude.{Result, Ok, Err}
+use Rattle.std.specs.Prelude.{Ok, Err}
 use Rattle.network.proofs.Ranges.{ranges}
 use Rattle.network.proofs.Answers.{fine}
 use Rattle.network.specs.Network.{worst}
-use Rattle.host.specs.declared.Host.{Host}
-use Rattle.host.specs.declared.Refusal.{Refusal}
 use Rattle.host.specs.declared.Refusal.TheVariants.{BadValue, NotInPlan}
-use Rattle.host.specs.Answers.{number, of_plan, refusal_of}
-use Rattle.host.specs.Make.{made, make_refusal}
+use Rattle.host.specs.Answers.{of_plan}
+use Rattle.host.specs.Make.{make_refusal}
 use Rattle.host.proofs.Fresh.{make_refusal_lem, plan_refusal_lem, plan_bounds, plan_first, refused_making, bound_rules}
 use Rattle.host.proofs.Numbers.{passed, failed, err_is}
 use Rattle.host.proofs.making.make.Goals as goal

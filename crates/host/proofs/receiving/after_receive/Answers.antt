@@ -1,5 +1,6 @@
 -- A state that is not sound is refused first; a refusal keeps the state; else the order is held. Assumes nothing.
 use mathlib.Core.Path.{◌≡◌, sym, ap, ◌∙◌}
+use Rattle.std.proofs.lemmas.List.{map-id}
 use Rattle.lists.specs.Lists.{any}
 use Rattle.host.specs.declared.Refusal.TheVariants.{Unsound}
 use Rattle.std.specs.Prelude.{Result}
@@ -28,13 +29,17 @@ shared_ref_as_front-held c = (sound_is c.args.host (sym c.is_sound.ensures ∙ c
 pub receive_held-requires : goal.receive_held-requires
 receive_held-requires c =
     let a = c.args in
-    let said = receive_said a.host a.u.0 a.arrival a.hop a.copy _ _ _ _ (sym c.is_sound.ensures ∙ c.if-not-is_sound.false) c.frame_of.ensures (c.look-seen.ensures.same_value, (c.look-seen.ensures.other_value, c.look-seen.ensures.named_value)) c.receive_answer-answer.ensures in
+    let own = map-id (held_of a.host) in
+    let looked = c.look-seen.ensures in
+    let said = receive_said a.host a.u.0 a.arrival a.hop a.copy _ _ _ _ (sym c.is_sound.ensures ∙ c.if-not-is_sound.false) c.frame_of.ensures (looked.same_value ∙ ap (any (same_held a.copy)) own, (looked.other_value ∙ ap (any (other_held a.copy)) own, looked.named_value ∙ ap (any (same_name a.copy)) own)) c.receive_answer-answer.ensures in
     sym (ap (λ (w : Said). w.refusal) said ∙ said_refusal (receive_refusal a.host a.u.0 a.arrival a.hop a.copy) _ _) ∙ ap (λ (x : Result Sent Refusal). (says x).refusal) c.in-Ok.is
 
 pub returns-in-Err : goal.returns-in-Err
 returns-in-Err c =
     let a = c.args in
-    let said = receive_said a.host a.u.0 a.arrival a.hop a.copy _ _ _ _ (sym c.is_sound.ensures ∙ c.if-not-is_sound.false) c.frame_of.ensures (c.look-seen.ensures.same_value, (c.look-seen.ensures.other_value, c.look-seen.ensures.named_value)) c.receive_answer-answer.ensures in
+    let own = map-id (held_of a.host) in
+    let looked = c.look-seen.ensures in
+    let said = receive_said a.host a.u.0 a.arrival a.hop a.copy _ _ _ _ (sym c.is_sound.ensures ∙ c.if-not-is_sound.false) c.frame_of.ensures (looked.same_value ∙ ap (any (same_held a.copy)) own, (looked.other_value ∙ ap (any (other_held a.copy)) own, looked.named_value ∙ ap (any (same_name a.copy)) own)) c.receive_answer-answer.ensures in
     let w = c.in-Err.field-0 in
     let e : number w ≡ receive_refusal a.host a.u.0 a.arrival a.hop a.copy = ap (λ (x : Result Sent Refusal). (says x).refusal) (sym c.in-Err.is) ∙ ap (λ (w : Said). w.refusal) said ∙ said_refusal (receive_refusal a.host a.u.0 a.arrival a.hop a.copy) _ _ in
     (kept w _ _ _ e, said)
@@ -42,5 +47,7 @@ returns-in-Err c =
 pub returns-in-Ok : goal.returns-in-Ok
 returns-in-Ok c =
     let a = c.args in
-    let said = receive_said a.host a.u.0 a.arrival a.hop a.copy _ _ _ _ (sym c.is_sound.ensures ∙ c.if-not-is_sound.false) c.frame_of.ensures (c.look-seen.ensures.same_value, (c.look-seen.ensures.other_value, c.look-seen.ensures.named_value)) c.receive_answer-answer.ensures in
+    let own = map-id (held_of a.host) in
+    let looked = c.look-seen.ensures in
+    let said = receive_said a.host a.u.0 a.arrival a.hop a.copy _ _ _ _ (sym c.is_sound.ensures ∙ c.if-not-is_sound.false) c.frame_of.ensures (looked.same_value ∙ ap (any (same_held a.copy)) own, (looked.other_value ∙ ap (any (other_held a.copy)) own, looked.named_value ∙ ap (any (same_name a.copy)) own)) c.receive_answer-answer.ensures in
     (c.receive_held.ensures, said)

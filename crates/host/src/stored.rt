@@ -1,0 +1,55 @@
+// An order held under its name, in the form in which a history stores it: a host's own, or a service's flat memory.
+ghost use Rattle.std.specs.Prelude.{◌≡◌, eqb};
+ghost use Rattle.host.specs.State.{fits, is_no_held, no_held};
+
+use crate::Held;
+use crate::unused::is_no_held;
+use clock::{Reading, is_stamp};
+use orders::share_fits;
+
+pub trait Stored: Copy {
+    ghost use Rattle.host.specs.declared.Held.{Held};
+
+    ghost as_held: { Self → Held };
+
+    fn stamp(self) -> Reading
+        ensures { result ≡ (as_held self).stamp };
+
+    fn source(self) -> u8
+        ensures { result ≡ (as_held self).source };
+
+    fn held(self) -> Held
+        ensures { result ≡ as_held self };
+
+    // Whether it may be held: its stamp, its source and its order are in range.
+    fn is_fit(self, hosts: u8) -> bool
+        ensures { result ≡ fits hosts (as_held self) };
+
+    // 0 just where the place is unused, so that many places are tested as one number.
+    fn bits(self) -> u64
+        ensures { eqb result 0 ≡ is_no_held (as_held self) };
+}
+
+impl Stored for Held {
+    ghost as_held = { λ e. e };
+
+    fn stamp(self) -> Reading {
+        self.stamp
+    }
+
+    fn source(self) -> u8 {
+        self.source
+    }
+
+    fn held(self) -> Held {
+        self
+    }
+
+    fn is_fit(self, hosts: u8) -> bool {
+        is_stamp(self.stamp) & (self.source < hosts) & share_fits(self.order)
+    }
+
+    fn bits(self) -> u64 {
+        u64::from(!is_no_held(self))
+    }
+}
