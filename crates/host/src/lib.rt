@@ -11,7 +11,6 @@ mod receiving;
 mod sound;
 mod starting;
 mod starts;
-mod states;
 mod stored;
 mod ticking;
 mod unused;
