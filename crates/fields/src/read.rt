@@ -18,10 +18,10 @@ pub fn byte_at(bytes: &[u8], at: usize) -> u8
 pub fn value_at(bytes: &[u8], at: usize, width: u8) -> u64
     ensures { result ≡ number_at bytes.now at width }
 {
-    let mut x: u64 = 0;
     if bytes.len() <= at {
-        return x;
+        return 0;
     }
+    let mut x = 0;
     for i in 0..width.min(8) as usize {
         x = x * 256 + byte_at(bytes, at + i) as u64;
     }

@@ -13,7 +13,6 @@ use Rattle.orders.proofs.Laws.{same_equal, equal_same}
 use Rattle.host.specs.declared.Held.{Held}
 use Rattle.host.specs.State.{same_name, before}
 use Rattle.host.specs.Receive.{same_held}
-pub use Rattle.host.specs.Ranks.{Goes, before_is, is_before, before_trans}
 
 -- ---- what the tests say
 
@@ -26,7 +25,38 @@ name_is x y e =
 pub is_name : (x y : Held) → x.stamp.0 ≡ y.stamp.0 → x.source ≡ y.source → same_name x y ≡ true
 is_name x y t s = simp (eq-eqb _ _ t, eq-eqb _ _ s)
 
+-- x goes before y: by stamp, and at equal stamps by source
+abbrev pub Goes : Held → Held → Type 0
+Goes x y = (x.stamp.0 < y.stamp.0) ⊎ ((x.stamp.0 ≡ y.stamp.0) × (x.source < y.source))
+
+pub before_is : (x y : Held) → before x y ≡ true → Goes x y
+before_is x y e = go (or_cases (ltb x.stamp.0 y.stamp.0) (same && less) e)
+  where
+    same : Bool
+    same = eqb x.stamp.0 y.stamp.0
+
+    less : Bool
+    less = ltb x.source y.source
+
+    go : (ltb x.stamp.0 y.stamp.0 ≡ true) ⊎ ((same && less) ≡ true) → Goes x y
+    go (inl q) = inl (ltb-true _ _ q)
+    go (inr q) = inr (eqb-true _ _ (and_left_lem same less q), ltb-true _ _ (and_right same less q))
+
+pub is_before : (x y : Held) → Goes x y → before x y ≡ true
+is_before x y (inl l) = or_true_left (ltb x.stamp.0 y.stamp.0) (eqb x.stamp.0 y.stamp.0 && ltb x.source y.source) (lt-ltb _ _ l)
+is_before x y (inr e) =
+    or_true_right (ltb x.stamp.0 y.stamp.0) (eqb x.stamp.0 y.stamp.0 && ltb x.source y.source) (simp (eq-eqb _ _ e.0, lt-ltb _ _ e.1))
+
 -- ---- the order
+
+pub before_trans : (x y z : Held) → before x y ≡ true → before y z ≡ true → before x z ≡ true
+before_trans x y z a b = is_before x z (go (before_is x y a) (before_is y z b))
+  where
+    go : Goes x y → Goes y z → Goes x z
+    go (inl l) (inl m) = inl (omega arith)
+    go (inl l) (inr m) = let same : y.stamp.0 ≡ z.stamp.0 = m.0 in inl (omega arith)
+    go (inr l) (inl m) = let same : x.stamp.0 ≡ y.stamp.0 = l.0 in inl (omega arith)
+    go (inr l) (inr m) = inr (l.0 ∙ m.0, let f : x.source < y.source = l.1 in let g : y.source < z.source = m.1 in omega arith)
 
 pub before_other : (x y : Held) → same_name x y ≡ true → before x y ≡ false
 before_other x y e = false_unless (before x y) (λ q. go (before_is x y q))

@@ -1,5 +1,4 @@
 pub mod State
-pub mod Ranks
 pub mod Inside
 pub mod Entries
 pub mod Answers

@@ -3,7 +3,7 @@ ghost use Rattle.std.specs.Prelude.{◌≡◌, true, ◌+◌, ◌<◌, take, dro
 ghost use Rattle.lists.specs.Lists.{all, rising, insert, pad};
 ghost use Rattle.host.specs.State.{no_held, is_no_held, held_of, before, with};
 ghost use Rattle.host.specs.Tick.{due};
-ghost use Rattle.host.specs.Ranks.{before_trans};
+ghost use Rattle.lists.proofs.Ranks.{by_two};
 
 use crate::{Held, Host};
 use clock::{Reading, reached};
@@ -23,7 +23,7 @@ impl Ranked for Held {
         (self.stamp < other.stamp) | ((self.stamp == other.stamp) & (self.source < other.source))
     }
 
-    ghost transitive = { before_trans };
+    ghost transitive = { by_two (λ e. e.stamp.0) (λ e. e.source) };
 }
 
 // One order more is held, in its place.

@@ -1,17 +1,20 @@
 -- One element more among those of an array, its place sought from behind: which place that is, what the array then holds, and that where the
 -- elements rise it is the place that `insert` finds. Assumes nothing.
 use mathlib.Core.Path.{◌≡◌, refl, sym, ap, ap₂, ◌∙◌, subst}
-use mathlib.Core.Bool.{Bool, true, false, cond, ◌&&◌}
+use mathlib.Core.Bool.{Bool, true, false, cond, ◌&&◌, ◌||◌}
+use mathlib.Core.Logic.{◌⊎◌, inl, inr, ⊎_elim}
 use mathlib.Core.List.{List, [], ◌∷◌, ◌++◌, append_assoc}
 use Prim.Native.Nat.{ℕ, zero, suc, ◌+◌, ◌-◌, ◌≤◌, ◌<◌, zero-le, suc-le-suc}
 use native.Mathlib.Nat.{zero-lt-suc}
 use native.Mathlib.Omega.{arith}
-use borrow.Author.Tests.{le-ltb, lt-ltb}
+use borrow.Author.Tests.{le-ltb, lt-ltb, ltb-true, eqb-true, eq-eqb}
+use lib.Dec.{eqb, ltb}
 use lib.ListN.{length, take, drop, set, length-drop}
 use lib.Seq.{set_split, take-take, take-append-le, drop_at, paste, length-paste, length-take-le}
 use Rattle.std.specs.Prelude.{slice_get, IsSomeAnd}
 use Rattle.std.proofs.lemmas.List.{drop-take}
 use Rattle.lists.specs.Lists.{all, rising, insert, insert_late, put_in}
+use Rattle.lists.proofs.Bools.{and_left_lem, and_right, or_cases, or_true_left, or_true_right}
 use Rattle.lists.proofs.Order.{rising_tail, from_less}
 use Rattle.lists.proofs.Rises.{first_before}
 
@@ -120,3 +123,39 @@ module _ {A : Type 0} (r : A → A → Bool) (x : A) where
   pub put_rising : ((x y z : A) → r x y ≡ true → r y z ≡ true → r x z ≡ true) → (n : ℕ) (l : List A) → n < length l → rising r (take n l) ≡ true
       → put_in r x n l ≡ insert r x (take n l) ++ drop (n + 1) l
   put_rising trans n l h up = put_one n l h ∙ ap (λ (t : List A). t ++ drop (n + 1) l) (late_first trans (take n l) up)
+
+-- ---- an order by one number, and at equal ones by another, as names of two numbers have
+
+module _ {A : Type 0} (first second : A → ℕ) where
+  abbrev before : A → A → Bool
+  before x y = ltb (first x) (first y) || eqb (first x) (first y) && ltb (second x) (second y)
+
+  Goes : A → A → Type 0
+  Goes x y = (first x < first y) ⊎ ((first x ≡ first y) × (second x < second y))
+
+  goes : (x y : A) → before x y ≡ true → Goes x y
+  unfolding Goes
+  goes x y e =
+      ⊎_elim (λ q. inl (ltb-true (first x) (first y) q))
+      (λ q.
+      let same = eqb (first x) (first y) in
+      inr (eqb-true (first x) (first y) (and_left_lem same _ q), ltb-true (second x) (second y) (and_right same _ q)))
+      (or_cases (ltb (first x) (first y)) _ e)
+
+  pub by_two : (x y z : A) → before x y ≡ true → before y z ≡ true → before x z ≡ true
+  unfolding Goes
+  by_two x y z a b = go (goes x y a) (goes y z b)
+    where
+      less : first x < first z → before x z ≡ true
+      less l = or_true_left (ltb (first x) (first z)) _ (lt-ltb (first x) (first z) l)
+
+      same : first x ≡ first z → second x < second z → before x z ≡ true
+      same e l =
+          or_true_right (ltb (first x) (first z)) _
+          (ap₂ (λ (s t : Bool). s && t) (eq-eqb (first x) (first z) e) (lt-ltb (second x) (second z) l))
+
+      go : Goes x y → Goes y z → before x z ≡ true
+      go (inl l) (inl m) = less (omega arith)
+      go (inl l) (inr m) = less (omega (arith, m.0))
+      go (inr l) (inl m) = less (omega (arith, l.0))
+      go (inr l) (inr m) = same (l.0 ∙ m.0) (omega (arith, l.1, m.1))

@@ -16,11 +16,11 @@ pub use reader::Reader;
 pub use reading::{order_part, read};
 pub use writing::write;
 
-#[derive(Clone, Copy)]
+#[derive(Clone, Copy, Debug, PartialEq, Eq)]
 pub struct Message {
     pub stamp: Reading,
     pub source: u8,
-    // 1..8 under the second rules, 0 under the first.
+    // 1..8 under the second rules, 0 under the first; a number, as a call takes any and refuses the rest.
     pub hop: u8,
     pub order: Order,
 }
@@ -43,8 +43,8 @@ impl From<WriteRefusal> for u8 {
     }
 }
 
-// A message that was read, with the place and the size of its order's bytes.
-#[derive(Clone, Copy)]
+// A message that was read, with the place and the size of its order's bytes: numbers, as C is given them.
+#[derive(Clone, Copy, Debug, PartialEq, Eq)]
 pub struct Found {
     pub message: Message,
     pub start: usize,
@@ -91,6 +91,7 @@ pub const HOP: Slot = Slot {
 };
 
 // Where the order's field begins: after stamp and source, and under the second rules the hop.
+// A rule set is a number, as a call takes any and refuses the rest.
 fn order_place(rules: u8) -> usize
     ensures { result ≡ order_place rules }
 {

@@ -47,6 +47,7 @@ fn put_message(out: &mut [u8], rules: u8, message: Message)
 }
 
 // The hop's field, which the second rules have.
+#[tactic(auto, using(fields::proofs::Placing::placed_none))]
 fn put_hop(out: &mut [u8], rules: u8, hop: u8)
     ensures { out.new ≡ placed out.old 15 (cond (eqb rules 2) (field 3 (be 1 hop)) []) }
 {

@@ -78,19 +78,12 @@ pub(crate) fn again(rules: u8, message: Message, sums: Sums) -> Sums {
         return sums;
     };
     let whole = first(&bytes, n);
-    let same = message::read(rules, whole).is_ok_and(|found| is_same(found.message, message));
+    let same = message::read(rules, whole).is_ok_and(|found| found.message == message);
     Sums {
         same: sums.same.wrapping_add(u32::from(same)),
         bytes: digest(whole, sums.bytes),
         orders: digest(message::order_part(rules, whole), sums.orders),
     }
-}
-
-fn is_same(a: Message, b: Message) -> bool {
-    a.stamp.0 == b.stamp.0
-        && a.source == b.source
-        && a.hop == b.hop
-        && orders::same(a.order, b.order)
 }
 
 fn digest(bytes: &[u8], start: u64) -> u64 {
