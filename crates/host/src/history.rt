@@ -20,6 +20,7 @@ impl Ranked for Held {
     ghost before = { before };
 
     fn is_before(self, other: Held) -> bool {
+        // Not derived: the order under the name counts for nothing.
         (self.stamp < other.stamp) | ((self.stamp == other.stamp) & (self.source < other.source))
     }
 

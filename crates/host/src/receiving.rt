@@ -62,6 +62,7 @@ fn receive_checks(
     )?;
     refuse_if(!is_fit_copy(rules, hop, copy), Refusal::BadValue)?;
     refuse_if(!is_reading(u), Refusal::BadReading)?;
+    // By their numbers: with the derived order the proof of so long a chain did not close.
     refuse_if(u.0 < frame.last.0, Refusal::Behind)?;
     refuse_if(is_early(rules, plan, u, hop, stamp), Refusal::Early)?;
     refuse_if(is_late(rules, plan, u, hop, stamp), Refusal::Late)?;

@@ -46,8 +46,8 @@ fn start_checks(frame: Frame, u: Reading, order: Order) -> Result<(), Refusal>
     let open = reached(fourth_last, window(frame.rules, plan, frame.d), u);
     refuse_if(!share_fits(order), Refusal::BadValue)?;
     refuse_if(!is_stamp(u), Refusal::BadReading)?;
-    refuse_if(u.0 < frame.last.0, Refusal::Behind)?;
-    refuse_if((0 < started) & (u.0 == last.0), Refusal::SameStart)?;
+    refuse_if(u < frame.last, Refusal::Behind)?;
+    refuse_if((0 < started) & (u == last), Refusal::SameStart)?;
     refuse_if((4 <= started) & !open, Refusal::WindowFull)?;
     refuse_if(32 <= frame.held, Refusal::HistoryFull)
 }

@@ -10,7 +10,7 @@ use crate::checks::refuse_if;
 use crate::entries::put_entry;
 use crate::history::is_due;
 use crate::lent::tick;
-use crate::unused::no_held;
+use crate::unused::NO_HELD;
 use crate::walks::due_in_front;
 use crate::{Frame, Held, Host, Refusal, Ticked};
 use clock::{Reading, is_reading};
@@ -35,7 +35,7 @@ fn tick_checks(frame: Frame, u: Reading, room: usize, count: usize) -> Result<()
     ensures { refusal_of result ≡ first_of (tick_checks (bare frame) u.0 room count) }
 {
     refuse_if(!is_reading(u), Refusal::BadReading)?;
-    refuse_if(u.0 < frame.last.0, Refusal::Behind)?;
+    refuse_if(u < frame.last, Refusal::Behind)?;
     refuse_if(room / 16 < count, Refusal::ShortBuffer)
 }
 
@@ -56,7 +56,7 @@ pub(crate) fn tick_left(host: &mut Host, u: Reading, out: &mut [u8])
     host.last = u;
 }
 
-// What a delivery leaves of the history.
+// What a delivery leaves of the history: places and how many are used, since there is no heap.
 #[derive(Clone, Copy)]
 pub(crate) struct Rest {
     pub held: usize,
@@ -87,7 +87,7 @@ fn deliver(out: &mut [u8], history: &[Held], bound: u64, u: Reading) -> Rest
     ensures history_value { result.history ≡ pad 32 no_held (waiting_in bound u.0 history.now) }
     ensures out_after { out.new ≡ written (due_in bound u.0 history.now) out.old }
 {
-    let mut rest = [no_held(); 32];
+    let mut rest = [NO_HELD; 32];
     let mut waiting: usize = 0;
     let mut delivered: usize = 0;
     for e in history {
