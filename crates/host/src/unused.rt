@@ -44,5 +44,6 @@ fn is_no_reading(s: Reading) -> bool
 pub(crate) fn is_no_held(e: Held) -> bool
     ensures { result ≡ is_no_held e }
 {
-    e == NO_HELD
+    // == of NO_HELD was tried, and is slower.
+    (e.stamp.0 == 0) & (e.source == 0) & matches!(e.order, Order::Publish { image: 0, share: 0 })
 }
