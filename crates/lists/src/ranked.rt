@@ -2,6 +2,8 @@
 ghost use Rattle.std.specs.Prelude.{◌≡◌, Bool, true, false, ℕ, ◌<◌, ◌≤◌, ◌+◌, ◌-◌, ◌++◌, length, take, drop, slice_get, IsSomeAnd};
 ghost use Rattle.lists.specs.Lists.{rising, insert, put_in};
 
+use crate::shifts::open_at;
+
 pub trait Ranked {
     ghost before: { Self → Self → Bool };
 
@@ -20,8 +22,7 @@ pub fn insert<T: Ranked + Copy>(entries: &mut [T], used: usize, x: T)
         return;
     }
     let at = place_of(&entries[..used], x);
-    entries.copy_within(at..used, at + 1);
-    entries[at] = x;
+    open_at(&mut entries[..=used], at, x);
 }
 
 // A new element mostly comes last, so its place is sought from behind.
