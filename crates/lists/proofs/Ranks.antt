@@ -6,17 +6,17 @@ use mathlib.Core.Logic.{◌⊎◌, inl, inr, ⊎_elim}
 use mathlib.Core.List.{List, [], ◌∷◌, ◌++◌, append_assoc}
 use Prim.Native.Nat.{ℕ, zero, suc, ◌+◌, ◌-◌, ◌≤◌, ◌<◌, zero-le, suc-le-suc}
 use native.Mathlib.Nat.{zero-lt-suc}
-use native.Mathlib.Numerals.{add-one}
 use native.Mathlib.Omega.{arith}
 use borrow.Author.Tests.{le-ltb, lt-ltb, ltb-true, eqb-true, eq-eqb}
 use lib.Dec.{eqb, ltb}
-use lib.ListN.{length, take, drop, get_or, length-append}
-use lib.Seq.{take-suc, take-append-le, drop-append-le, take_at}
+use lib.ListN.{length, take, drop, set}
+use lib.Seq.{take-take, paste, length-take-le}
 use Rattle.std.specs.Prelude.{slice_get, IsSomeAnd}
+use Rattle.std.proofs.lemmas.List.{drop-take}
 use Rattle.lists.specs.Lists.{all, rising, insert, insert_late, put_in}
 use Rattle.lists.proofs.Bools.{and_left_lem, and_right, or_cases, or_true_left, or_true_right}
+use Rattle.lists.proofs.Moves.{opened}
 use Rattle.lists.proofs.Order.{rising_tail, from_less}
-use Rattle.lists.proofs.Places.{splice_long}
 use Rattle.lists.proofs.Rises.{first_before}
 
 module _ {A : Type 0} (r : A → A → Bool) (x : A) where
@@ -54,31 +54,19 @@ module _ {A : Type 0} (r : A → A → Bool) (x : A) where
       stops : 0 < k → IsSomeAnd (slice_get (y ∷ l) k) (λ (e : A). r x e ≡ false) → IsSomeAnd (slice_get l (k - 1)) (λ (e : A). r x e ≡ false)
       stops pos e = let up : k ≡ suc (k - 1) = omega arith in subst (λ (j : ℕ). IsSomeAnd (slice_get (y ∷ l) j) (λ (e : A). r x e ≡ false)) up e
 
-  -- the place behind those in use, and x put in at k among them
-  put_at : {b : List A} (l : List A) (n k : ℕ) → n < length l → k ≤ length (take n l)
-      → b ≡ take (length (take (n + 1) l)) (take k (take (n + 1) l) ++ (x ∷ drop k (take (n + 1) l))) → b ≡ take k (take n l) ++ (x ∷ drop k (take n l))
-  put_at l n k fits le e =
-      e
-      ∙ ap (λ (t : List A). take (length t) (take k t ++ (x ∷ drop k t))) one_more
-      ∙ ap₂ take (length-append used last) whole
-      ∙ take_at (take k used ++ (x ∷ drop k used)) last (length used + 1) long
+  -- those from k up to n moved up by one place, and x put in at k
+  moved_put : (l : List A) (n k : ℕ) → n < length l → k ≤ n
+      → set (paste l (k + 1) (drop k l) (n - k)) k x ≡ (take k (take n l) ++ (x ∷ drop k (take n l))) ++ drop (n + 1) l
+  moved_put l n k fits le =
+      opened x l k (n - k) (omega arith)
+      ∙ ap₂ (λ (s t : List A). s ++ (x ∷ t)) (sym (take-take k n l le)) (ap₂ (λ (s t : List A). s ++ t) (sym between) end)
+      ∙ sym (append_assoc (take k (take n l)) (x ∷ drop k (take n l)) (drop (n + 1) l))
     where
-      used : List A
-      used = take n l
+      between : drop k (take n l) ≡ take (n - k) (drop k l)
+      between = let whole : n ≡ k + (n - k) = omega arith in ap (λ (m : ℕ). drop k (take m l)) whole ∙ drop-take k (n - k) l
 
-      last : List A
-      last = get_or l n x ∷ []
-
-      one_more : take (n + 1) l ≡ take n l ++ (get_or l n x ∷ [])
-      one_more = rw add-one (take-suc l n x fits)
-
-      whole : take k (take n l ++ (get_or l n x ∷ [])) ++ (x ∷ drop k (take n l ++ (get_or l n x ∷ []))) ≡ (take k (take n l) ++ (x ∷ drop k (take n l))) ++ (get_or l n x ∷ [])
-      whole =
-          ap₂ (λ (s t : List A). s ++ (x ∷ t)) (take-append-le k (take n l) (get_or l n x ∷ []) le) (drop-append-le k (take n l) (get_or l n x ∷ []) le)
-          ∙ sym (append_assoc (take k (take n l)) (x ∷ drop k (take n l)) (get_or l n x ∷ []))
-
-      long : length (take k (take n l) ++ (x ∷ drop k (take n l))) ≡ length (take n l) + 1
-      long = let e = splice_long (take n l) (x ∷ []) k k le in omega arith
+      end : drop (k + 1 + (n - k)) l ≡ drop (n + 1) l
+      end = let same : k + 1 + (n - k) ≡ n + 1 = omega arith in ap (λ (m : ℕ). drop m l) same
 
   -- where the elements rise, it is the place before the first that x goes before
   module _ (trans : (x y z : A) → r x y ≡ true → r y z ≡ true → r x z ≡ true) where
@@ -94,6 +82,12 @@ module _ {A : Type 0} (r : A → A → Bool) (x : A) where
         go true e rest = ap (λ (t : Bool). cond t (x ∷ y ∷ l) (y ∷ insert_late r x l)) (before_all e)
         go false e rest = ap (λ (t : List A). y ∷ t) rest
 
+  put_behind : (l : List A) (n k : ℕ) → n < length l → k ≤ length (take n l) → Behind k (take n l) → Stops k (take n l)
+      → set (paste l (k + 1) (drop k l) (n - k)) k x ≡ insert_late r x (take n l) ++ drop (n + 1) l
+  put_behind l n k fits le b s =
+      let used = length-take-le n l (omega arith) in
+      moved_put l n k fits (omega arith) ∙ ap (λ (t : List A). t ++ drop (n + 1) l) (sym (late_at (take n l) k le b s))
+
   -- ---- what the array holds
 
   pub put_none : (n : ℕ) (l : List A) → length l ≤ n → put_in r x n l ≡ l
@@ -104,10 +98,9 @@ module _ {A : Type 0} (r : A → A → Bool) (x : A) where
   unfolding put_in
   put_one n l h = ap (λ (t : Bool). cond t (insert_late r x (take n l) ++ drop (n + 1) l) l) (lt-ltb n (length l) h)
 
-  pub put_is : (b l : List A) (n k : ℕ) → n < length l → k ≤ length (take n l) → Behind k (take n l) → Stops k (take n l)
-      → b ≡ take (length (take (n + 1) l)) (take k (take (n + 1) l) ++ (x ∷ drop k (take (n + 1) l))) → b ++ drop (n + 1) l ≡ put_in r x n l
-  put_is b l n k fits le behind stops e =
-      ap (λ (t : List A). t ++ drop (n + 1) l) (put_at l n k fits le e ∙ sym (late_at (take n l) k le behind stops)) ∙ sym (put_one n l fits)
+  pub put_is : (a l : List A) (n k : ℕ) → n < length l → k ≤ length (take n l) → Behind k (take n l) → Stops k (take n l)
+      → a ≡ paste l (k + 1) (drop k l) (n - k) → set a k x ≡ put_in r x n l
+  put_is a l n k fits le b s e = ap (λ (t : List A). set t k x) e ∙ put_behind l n k fits le b s ∙ sym (put_one n l fits)
 
   -- where those in use rise
   pub put_rising : ((x y z : A) → r x y ≡ true → r y z ≡ true → r x z ≡ true) → (n : ℕ) (l : List A) → n < length l → rising r (take n l) ≡ true

@@ -2,8 +2,6 @@
 ghost use Rattle.std.specs.Prelude.{◌≡◌, Bool, true, false, ℕ, ◌<◌, ◌≤◌, ◌+◌, ◌-◌, ◌++◌, length, take, drop, slice_get, IsSomeAnd};
 ghost use Rattle.lists.specs.Lists.{rising, insert, put_in};
 
-use crate::shifts::open_at;
-
 pub trait Ranked {
     ghost before: { Self → Self → Bool };
 
@@ -22,7 +20,9 @@ pub fn insert<T: Ranked + Copy>(entries: &mut [T], used: usize, x: T)
         return;
     }
     let at = place_of(&entries[..used], x);
-    open_at(&mut entries[..=used], at, x);
+    // Tried by `open_at`, and slower where x comes last.
+    entries.copy_within(at..used, at + 1);
+    entries[at] = x;
 }
 
 // A new element mostly comes last, so its place is sought from behind.
