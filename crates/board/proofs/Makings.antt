@@ -9,7 +9,7 @@ use borrow.Author.Tests.{le-leb, lt-leb}
 use lib.Dec.{leb}
 use lib.ListN.{length, take, drop, get_or, set, take-append-drop, length-map}
 use Rattle.std.specs.List.{take-map}
-use Rattle.std.proofs.lemmas.List.{get_or-map, get_or-take, map-set, length-take-le}
+use Rattle.std.proofs.lemmas.List.{get_or-map, get_or-take, map-set}
 use Rattle.lists.specs.Lists.{rising}
 use Rattle.lists.proofs.Places.{splice_long}
 use Rattle.orders.specs.declared.Order.{Order}
@@ -117,7 +117,7 @@ module _ {P : Type 0} (place : P → Place) (old : List P) (count : ℕ) (o : Or
 
   -- the image stands at its place, among those that were searched
   module _ {searched : List P} {image at : ℕ} {was stand : Stand} (x : P) (u : searched ≡ take count old) (i : image ≡ image_of o) (w : was ≡ (place (get_or old at x)).stand)
-    (to : stand ≡ outcome o was) (found : StandsAt (map place searched) image at) where
+      (to : stand ≡ outcome o was) (found : StandsAt (map place searched) image at) where
     here : StandsAt (images b) image at
     here = subst (λ (t : List Place). StandsAt t image at) (ap (map place) u ∙ sym used) found
 
@@ -158,7 +158,7 @@ module _ {P : Type 0} (place : P → Place) (old : List P) (count : ℕ) (o : Or
 
   -- or would stand there
   module _ {searched : List P} {image at : ℕ} {stand : Stand} (u : searched ≡ take count old) (i : image ≡ image_of o) (to : stand ≡ outcome o Absent)
-    (found : WouldStandAt (map place searched) image at) where
+      (found : WouldStandAt (map place searched) image at) where
     there : WouldStandAt (images b) image at
     there = subst (λ (t : List Place). WouldStandAt t image at) (ap (map place) u ∙ sym used) found
 

@@ -1,13 +1,12 @@
 -- The places of an array moved by one: down, over one that is taken out, and up, for one that is put in. Assumes nothing.
 use mathlib.Core.Path.{◌≡◌, refl, sym, ap, ◌∙◌}
 use mathlib.Core.List.{List, [], ◌∷◌, ◌++◌, append-nil, map}
-use Prim.Native.Nat.{ℕ, suc, ◌+◌, ◌-◌, ◌≤◌, ◌<◌}
+use Prim.Native.Nat.{ℕ, suc, ◌+◌, ◌-◌, ◌≤◌}
 use native.Mathlib.Omega.{arith}
-use native.Mathlib.Numerals.{add-one}
-use lib.ListN.{length, take, drop, get_or, set, length-drop, drop_of_length-le}
-use lib.Seq.{paste, take_all, take_at, set_split, length-take-le, take-append-le, take-append-add}
+use lib.ListN.{length, take, drop, set, length-drop, drop_of_length-le}
+use lib.Seq.{paste, take_all, set_split, length-take-le, take-append-le, take-append-add}
 use Rattle.std.proofs.lemmas.List.{map-append, take-take, drop_at}
-use Rattle.std.proofs.lemmas.List.Edits.{length-paste, take-paste, drop-paste}
+use Rattle.std.proofs.lemmas.List.Edits.{length-paste, take-paste}
 use Rattle.std.specs.List.{copy_within, take-map, drop-map}
 
 module _ {A : Type 0} (last : ℕ) (l : List A) (at : ℕ) (long : length l ≡ last + 1) (h : at ≤ last) where

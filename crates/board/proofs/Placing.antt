@@ -6,7 +6,7 @@ use Prim.Native.Nat.{ℕ, zero, suc, ◌+◌, ◌≤◌, ◌<◌}
 use native.Mathlib.Omega.{arith}
 use borrow.Author.Tests.{eq-eqb, ne_eqb, lt-ltb, le-ltb, ltb-true}
 use lib.Dec.{ltb}
-use lib.ListN.{length, take, drop, get_or, length-map}
+use lib.ListN.{length, take, drop, get_or}
 use Rattle.std.specs.List.Sorted.{IsSearchInRange, IsBinarySearchResult, IsNonDecreasingBy}
 use Rattle.std.specs.Ordering.{nat_cmp, ordering_index}
 use Rattle.std.proofs.Common.{Result, Ok, Err, MatchResult}
@@ -18,7 +18,7 @@ use Rattle.lists.proofs.Order.{rising_tail}
 use Rattle.board.specs.declared.Stand.{Stand}
 use Rattle.board.specs.declared.Stand.TheVariants.{Absent}
 use Rattle.board.specs.declared.Place.{Place}
-use Rattle.board.specs.Board.{before, blank, stands, placed, settle}
+use Rattle.board.specs.Board.{before, stands, placed, settle}
 use Rattle.board.specs.Inside.{StandsAt, WouldStandAt}
 
 -- ---- a list whose first place has a smaller image, that image, or a larger one

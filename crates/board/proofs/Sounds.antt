@@ -1,12 +1,11 @@
 -- The tests of a board's soundness, in whatever form its places are kept. Assumes nothing.
 use mathlib.Core.Path.{◌≡◌, refl, sym, ap, ◌∙◌}
-use mathlib.Core.Bool.{Bool, true, false, ◌&&◌, and-true}
+use mathlib.Core.Bool.{Bool, true, false, ◌&&◌}
 use mathlib.Core.List.{List, [], ◌∷◌, map}
 use Prim.Native.Nat.{ℕ, zero, suc, ◌+◌, ◌≤◌, ◌<◌}
 use native.Mathlib.Omega.{arith}
 use borrow.Author.Tests.{le-leb, lt-leb}
 use lib.ListN.{length, take, drop, get_or}
-use Rattle.std.specs.Bool.{MatchBool}
 use Rattle.std.specs.List.{list_all, IsAllAdjacentAnswer, take-map, drop-map}
 use Rattle.lists.specs.Lists.{all, rising}
 use Rattle.lists.specs.Tests.{all_of}

@@ -1,6 +1,6 @@
 -- The image is settled as the table says of how it stood. Assumes nothing.
 use native.Mathlib.Omega.{arith}
-use Rattle.std.proofs.Common.{◌≡◌, true, false, sym, ◌∙◌}
+use Rattle.std.proofs.Common.{sym, ◌∙◌}
 use Rattle.board.proofs.Makings.{is_sound, searched_rise, may_stand, closes, sets, may_come, opens, stays_absent, stays_out}
 use Rattle.board.proofs.lent.change.Goals as goal
 use Rattle.board.proofs.lent.change.Goals.{else-not-absent-via-then-not-absent+else-count-lt16, else-not-absent-via-else-not-absent}
@@ -33,10 +33,10 @@ returns-then-count-lt16 g c =
 pub returns-else-not-absent : goal.returns-else-not-absent
 returns-else-not-absent g c =
     elim c.else-not-absent.branch [
-      else-not-absent-via-then-not-absent+else-count-lt16 w ↦
-        stays_out g.P.Placed.place c.args.places.now c.args.count.now c.args.order c.told-places c.requires.sound c.split_at.ensures.front c.image-image.ensures
-        c.outcome_of-stand-in-Err.ensures c.in-Err.ensures (sym c.absent-in-Err.ensures ∙ w.if-not-absent.true) w.if-count-lt16.false
+      | else-not-absent-via-then-not-absent+else-count-lt16 w ↦
+          stays_out g.P.Placed.place c.args.places.now c.args.count.now c.args.order c.told-places c.requires.sound c.split_at.ensures.front c.image-image.ensures
+          c.outcome_of-stand-in-Err.ensures c.in-Err.ensures (sym c.absent-in-Err.ensures ∙ w.if-not-absent.true) w.if-count-lt16.false
       | else-not-absent-via-else-not-absent w ↦
-        stays_absent g.P.Placed.place c.args.places.now c.args.count.now c.args.order c.told-places c.requires.sound c.split_at.ensures.front c.image-image.ensures
-        c.outcome_of-stand-in-Err.ensures c.in-Err.ensures (sym c.absent-in-Err.ensures ∙ w.if-not-absent.false)
+          stays_absent g.P.Placed.place c.args.places.now c.args.count.now c.args.order c.told-places c.requires.sound c.split_at.ensures.front c.image-image.ensures
+          c.outcome_of-stand-in-Err.ensures c.in-Err.ensures (sym c.absent-in-Err.ensures ∙ w.if-not-absent.false)
     ]

@@ -1,6 +1,6 @@
 -- Those after it are moved down by one. Assumes nothing.
 use native.Mathlib.Omega.{arith}
-use Rattle.std.proofs.Common.{ap, sym, ◌∙◌, map, List, take, drop, ◌++◌, ◌∷◌, [], ◌+◌}
+use Rattle.std.proofs.Common.{ap, sym, ◌∙◌, map, take, drop, ◌++◌, ◌∷◌, [], ◌+◌}
 use Rattle.board.specs.declared.Place.{Place}
 use Rattle.board.proofs.Moves.{moved_down, cut_map}
 use Rattle.board.proofs.places.close_at.Goals as goal

@@ -1,6 +1,5 @@
 -- Those from there on are moved up by one. Assumes nothing.
 use native.Mathlib.Omega.{arith}
-use Rattle.std.proofs.Common.{ap, ◌∙◌, set}
 use Rattle.board.proofs.Moves.{moved_up}
 use Rattle.board.proofs.places.open_at.Goals as goal
 
