@@ -8,7 +8,6 @@ mod calls;
 mod changes;
 pub mod exports;
 mod frames;
-mod images;
 mod memory;
 pub mod messages;
 mod numbers;
@@ -62,12 +61,6 @@ pub struct PlaceMemory {
     pub stand: u16, // 1 offered, 2 halted
     pub share: u16,
 }
-
-const NO_PLACE: PlaceMemory = PlaceMemory {
-    image: 0,
-    stand: 0,
-    share: 0,
-};
 
 #[repr(C)]
 #[derive(Clone, Copy)]

@@ -1,32 +1,62 @@
-// A place of a board's flat memory: what the board's own tests say of what stands there, what it is, and back.
+// A place of a board's flat memory, for the board's own rules: what stands there, and back.
 ghost use Rattle.std.specs.Prelude.{◌≡◌};
-ghost use Rattle.service.specs.Memory.{stand_from, place_memory};
-ghost use Rattle.service.specs.Inside.{place_fits_in, blank_in};
+ghost use Rattle.service.specs.Memory.{stand_from};
 
 use crate::PlaceMemory;
-use board::Stand;
+use board::{Place, Placed, Stand};
 
-// Whether it is in use: offered with a share of 1 to 100, or halted with one of at most 100.
-pub(crate) fn is_fit(p: PlaceMemory) -> bool
-    ensures { result ≡ place_fits_in p }
-{
-    if p.share > 100 {
-        return false;
+impl Placed for PlaceMemory {
+    ghost use Rattle.service.specs.Memory.{place_from};
+
+    ghost place = { λ p. place_from p };
+
+    fn image(self) -> u32 {
+        self.image
     }
-    if p.stand == 2 {
-        return true;
+
+    fn stand(self) -> Stand {
+        stand_from(self.stand, self.share)
     }
-    (p.stand == 1) & (p.share != 0)
+
+    // Offered with a share of 1 to 100, or halted with one of at most 100.
+    fn is_fit(self) -> bool {
+        if self.share > 100 {
+            return false;
+        }
+        if self.stand == 2 {
+            return true;
+        }
+        (self.stand == 1) & (self.share != 0)
+    }
+
+    // One test of the sum, as one of each number costs a branch.
+    fn is_blank(self) -> bool {
+        u64::from(self.image) + u64::from(self.stand) + u64::from(self.share) == 0
+    }
+
+    fn of(p: Place) -> PlaceMemory {
+        let image = p.image;
+        match p.stand {
+            Stand::Absent => PlaceMemory {
+                image,
+                stand: 0,
+                share: 0,
+            },
+            Stand::Offered(share) => PlaceMemory {
+                image,
+                stand: 1,
+                share: u16::from(share),
+            },
+            Stand::Halted(share) => PlaceMemory {
+                image,
+                stand: 2,
+                share: u16::from(share),
+            },
+        }
+    }
 }
 
-// Whether the place is all zero.
-pub(crate) fn is_blank(p: PlaceMemory) -> bool
-    ensures { result ≡ blank_in p }
-{
-    (p.image as u64) + (p.stand as u64) + (p.share as u64) == 0
-}
-
-pub(crate) fn stand_from(stand: u16, share: u16) -> Stand
+fn stand_from(stand: u16, share: u16) -> Stand
     ensures { result ≡ stand_from stand share }
 {
     if (stand == 0) & (share == 0) {
@@ -39,26 +69,4 @@ pub(crate) fn stand_from(stand: u16, share: u16) -> Stand
         return Stand::Halted(share as u8);
     }
     Stand::Offered(0)
-}
-
-pub(crate) fn place_memory(image: u32, stand: Stand) -> PlaceMemory
-    ensures { result ≡ place_memory (record { image = image; stand = stand }) }
-{
-    match stand {
-        Stand::Absent => PlaceMemory {
-            image,
-            stand: 0,
-            share: 0,
-        },
-        Stand::Offered(share) => PlaceMemory {
-            image,
-            stand: 1,
-            share: share as u16,
-        },
-        Stand::Halted(share) => PlaceMemory {
-            image,
-            stand: 2,
-            share: share as u16,
-        },
-    }
 }
