@@ -3,21 +3,28 @@ ghost use Rattle.std.specs.Prelude.{◌<◌};
 
 use crate::{networks, timing};
 use clock::Reading;
-use host::{Held, Host, SendAnswer, TickAnswer};
+use host::{Held, Host, Refusal, Sent};
 use orders::Order;
 use std::io;
 use std::time::CpuClock;
 
-// The octahedron's host 2, whose Δ is 33, with halts received at reading 1000 under the stamps from 1000 on.
+// The octahedron's host 2, whose Δ is 33.
 pub(crate) fn times(rt: &(impl Print + CpuClock), rounds: u64) -> io::Result<()> {
-    let none = with_halts(0);
-    let most = with_halts(31);
-    let full = with_halts(32);
+    match host::make(networks::octahedron(1, 0), 1, 2) {
+        Ok(fresh) => calls(rt, fresh, rounds),
+        Err(refusal) => println!(rt; "refused {}", u8::from(refusal)),
+    }
+}
+
+fn calls(rt: &(impl Print + CpuClock), none: Host, rounds: u64) -> io::Result<()> {
+    let one = with_halts(none, 1);
+    let most = with_halts(none, 31);
+    let full = with_halts(none, 32);
     sound(rt, "soundness, 0 held", none, rounds)?;
     sound(rt, "soundness, 32 held", full, rounds)?;
     tick(rt, "idle tick, 0 held", none, 1000, rounds)?;
     tick(rt, "idle tick, 32 held", full, 1000, rounds)?;
-    tick(rt, "delivering tick, 1 held", with_halts(1), 1100, rounds)?;
+    tick(rt, "delivering tick, 1 held", one, 1100, rounds)?;
     tick(rt, "delivering tick, 32 held", full, 1100, rounds)?;
     start(rt, "start, 0 held", none, rounds)?;
     start(rt, "start, 31 held", most, rounds)?;
@@ -27,14 +34,12 @@ pub(crate) fn times(rt: &(impl Print + CpuClock), rounds: u64) -> io::Result<()>
     receive(rt, "receive past the bound, 32 held", full, 900, rounds)
 }
 
-fn with_halts(count: u64) -> Host {
-    let made = host::make(networks::octahedron(1, 0), 1, 2);
-    let mut h = made.host;
-    let mut i: u64 = 0;
-    while i < count {
-        let r = host::after_receive(h, Reading(1000), 1, 0, halt(1000 + i % 32));
-        h = r.host;
-        i += 1;
+// So many halts received at reading 1000, under the stamps from 1000 on.
+fn with_halts(fresh: Host, count: u64) -> Host {
+    let mut h = fresh;
+    for i in 0..count {
+        let received = host::after_receive(h, Reading(1000), 1, 0, halt(1000 + i % 32));
+        h = received.host;
     }
     h
 }
@@ -52,73 +57,33 @@ fn sound(rt: &(impl Print + CpuClock), name: &str, h: Host, rounds: u64) -> io::
     if host::is_sound(h) {
         print!(rt; ": sound")?;
     }
-    let from = timing::processor_time(rt);
     let mut g = h;
-    let mut sum: u64 = 0;
-    let mut i: u64 = 0;
-    while i < rounds {
-        let last = Reading(1000 + i % 4);
-        g.last = last;
-        if host::is_sound(g) {
-            sum = sum % 1_000_000_000 + 1;
-        }
-        i += 1;
-    }
-    timing::end_line(rt, rounds, from, sum)
+    timing::timed(rt, rounds, |round| {
+        g.last = near(1000, round);
+        u64::from(host::is_sound(g))
+    })
 }
 
-fn tick(
-    rt: &(impl Print + CpuClock),
-    name: &str,
-    h: Host,
-    reading: u64,
-    rounds: u64,
-) -> io::Result<()> {
+fn tick(rt: &(impl Print + CpuClock), name: &str, h: Host, u: u64, rounds: u64) -> io::Result<()> {
     let mut out = [0u8; 512];
-    print!(rt; "{name}: delivers ")?;
-    let first = host::after_tick(h, Reading(reading), &mut out);
-    let told = first.answer;
-    rt.print(delivered(told))?;
-    let from = timing::processor_time(rt);
-    let mut sum: u64 = 0;
-    let mut i: u64 = 0;
-    while i < rounds {
-        let u = Reading(reading % 1_000_000 + i % 4);
-        sum = sum % 1_000_000_000 + tick_once(h, u, &mut out);
-        i += 1;
-    }
-    timing::end_line(rt, rounds, from, sum)
-}
-
-fn tick_once(h: Host, u: Reading, out: &mut [u8]) -> u64
-    ensures { result < 65537 }
-{
-    let r = host::after_tick(h, u, out);
-    let answer = r.answer;
-    delivered(answer) + r.host.last.0 % 2
+    let told = host::after_tick(h, Reading(u), &mut out).answer;
+    print!(rt; "{name}: delivers {}", delivered(told))?;
+    timing::timed(rt, rounds, |round| {
+        let ticked = host::after_tick(h, near(u, round), &mut out);
+        delivered(ticked.answer).wrapping_add(odd(ticked.host.last))
+    })
 }
 
 fn start(rt: &(impl Print + CpuClock), name: &str, h: Host, rounds: u64) -> io::Result<()> {
     print!(rt; "{name}")?;
-    let first = host::after_start(h, Reading(1000), Order::Halt(7));
-    let told = first.answer;
-    show(rt, told)?;
-    let from = timing::processor_time(rt);
-    let mut sum: u64 = 0;
-    let mut i: u64 = 0;
-    while i < rounds {
-        sum = sum % 1_000_000_000 + start_once(h, Reading(1000 + i % 4));
-        i += 1;
-    }
-    timing::end_line(rt, rounds, from, sum)
-}
-
-fn start_once(h: Host, u: Reading) -> u64
-    ensures { result < 65537 }
-{
-    let r = host::after_start(h, u, Order::Halt(7));
-    let answer = r.answer;
-    sent(answer) + r.host.last.0 % 2
+    show(
+        rt,
+        host::after_start(h, Reading(1000), Order::Halt(7)).answer,
+    )?;
+    timing::timed(rt, rounds, |round| {
+        let started = host::after_start(h, near(1000, round), Order::Halt(7));
+        sent(started.answer) + odd(started.host.last)
+    })
 }
 
 fn receive(
@@ -129,48 +94,45 @@ fn receive(
     rounds: u64,
 ) -> io::Result<()> {
     print!(rt; "{name}")?;
-    let first = host::after_receive(h, Reading(1000), 1, 0, halt(stamp));
-    let told = first.answer;
-    show(rt, told)?;
-    let from = timing::processor_time(rt);
-    let mut sum: u64 = 0;
-    let mut i: u64 = 0;
-    while i < rounds {
-        sum = sum % 1_000_000_000 + receive_once(h, halt(stamp % 1_000_000 + i % 4));
-        i += 1;
-    }
-    timing::end_line(rt, rounds, from, sum)
+    show(
+        rt,
+        host::after_receive(h, Reading(1000), 1, 0, halt(stamp)).answer,
+    )?;
+    timing::timed(rt, rounds, |round| {
+        let copy = halt(near(stamp, round).0);
+        let received = host::after_receive(h, Reading(1000), 1, 0, copy);
+        sent(received.answer) + odd(received.host.last)
+    })
 }
 
-fn receive_once(h: Host, copy: Held) -> u64
-    ensures { result < 65537 }
+// One of four readings in turn.
+fn near(u: u64, round: u64) -> Reading {
+    Reading(u % 1_000_000 + round % 4)
+}
+
+// What the state made adds to the sum, so that it is made.
+fn odd(last: Reading) -> u64
+    ensures { result < 2 }
 {
-    let r = host::after_receive(h, Reading(1000), 1, 0, copy);
-    let answer = r.answer;
-    sent(answer) + r.host.last.0 % 2
+    last.0 % 2
 }
 
-fn delivered(answer: TickAnswer) -> u64
+fn delivered(answer: Result<usize, Refusal>) -> u64 {
+    answer.unwrap_or(0) as u64
+}
+
+fn sent(answer: Result<Sent, Refusal>) -> u64
     ensures { result < 65536 }
 {
     match answer {
-        TickAnswer::Delivered(count) => (count % 65536) as u64,
-        TickAnswer::Refused(_) => 0,
+        Ok(sent) => u64::from(sent.links),
+        Err(_) => 0,
     }
 }
 
-fn sent(answer: SendAnswer) -> u64
-    ensures { result < 65536 }
-{
+fn show(rt: &impl Print, answer: Result<Sent, Refusal>) -> io::Result<()> {
     match answer {
-        SendAnswer::Sent { links, hop: _ } => links as u64,
-        SendAnswer::Refused(_) => 0,
-    }
-}
-
-fn show(rt: &impl Print, answer: SendAnswer) -> io::Result<()> {
-    match answer {
-        SendAnswer::Sent { links, hop: _ } => print!(rt; ": sends on the set {links}"),
-        SendAnswer::Refused(r) => print!(rt; ": refused {}", host::number_of(r)),
+        Ok(sent) => print!(rt; ": sends on the set {}", sent.links),
+        Err(refusal) => print!(rt; ": refused {}", u8::from(refusal)),
     }
 }

@@ -2,50 +2,42 @@
 use network::{Link, Plan};
 
 pub(crate) fn cube(faulty_hosts: u8, faulty_links: u8) -> Plan {
-    plan(
-        8,
-        faulty_hosts,
-        faulty_links,
-        [
-            pair(0, 1),
-            pair(0, 2),
-            pair(0, 4),
-            pair(1, 3),
-            pair(1, 5),
-            pair(2, 3),
-            pair(2, 6),
-            pair(3, 7),
-            pair(4, 5),
-            pair(4, 6),
-            pair(5, 7),
-            pair(6, 7),
-        ],
-    )
+    let edges = [
+        (0, 1),
+        (0, 2),
+        (0, 4),
+        (1, 3),
+        (1, 5),
+        (2, 3),
+        (2, 6),
+        (3, 7),
+        (4, 5),
+        (4, 6),
+        (5, 7),
+        (6, 7),
+    ];
+    plan(8, faulty_hosts, faulty_links, edges)
 }
 
 pub(crate) fn octahedron(faulty_hosts: u8, faulty_links: u8) -> Plan {
-    plan(
-        6,
-        faulty_hosts,
-        faulty_links,
-        [
-            pair(0, 1),
-            pair(0, 2),
-            pair(0, 3),
-            pair(0, 4),
-            pair(1, 2),
-            pair(1, 3),
-            pair(1, 5),
-            pair(2, 4),
-            pair(2, 5),
-            pair(3, 4),
-            pair(3, 5),
-            pair(4, 5),
-        ],
-    )
+    let edges = [
+        (0, 1),
+        (0, 2),
+        (0, 3),
+        (0, 4),
+        (1, 2),
+        (1, 3),
+        (1, 5),
+        (2, 4),
+        (2, 5),
+        (3, 4),
+        (3, 5),
+        (4, 5),
+    ];
+    plan(6, faulty_hosts, faulty_links, edges)
 }
 
-fn plan(hosts: u8, faulty_hosts: u8, faulty_links: u8, links: [Link; 12]) -> Plan {
+fn plan(hosts: u8, faulty_hosts: u8, faulty_links: u8, edges: [(u8, u8); 12]) -> Plan {
     Plan {
         hosts,
         faulty_hosts,
@@ -53,10 +45,6 @@ fn plan(hosts: u8, faulty_hosts: u8, faulty_links: u8, links: [Link; 12]) -> Pla
         faulty_links,
         delay: 10,
         skew: 3,
-        links,
+        links: edges.map(|(a, b)| Link { a, b }),
     }
-}
-
-fn pair(a: u8, b: u8) -> Link {
-    Link { a, b }
 }

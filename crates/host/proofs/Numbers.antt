@@ -97,6 +97,14 @@ err_is (Err s) r h = ap Err h
 
 -- ---- the answer that says this
 
+pub verdict_by : ℕ → Result (Unit {0}) Refusal
+verdict_by k = cond (eqb k 0) (Ok tt) (Err (refusal k))
+
+pub verdict_back : (v : Result (Unit {0}) Refusal) → verdict_by (refusal_of v) ≡ v
+unfolding verdict_by
+verdict_back (Ok tt) = refl
+verdict_back (Err r) = simp (not_none r, (back r).0)
+
 pub made_by : ℕ → Host → Result Host Refusal
 made_by k h = cond (eqb k 0) (Ok h) (Err (refusal k))
 

@@ -2,10 +2,10 @@
 use mathlib.Core.Path.{◌≡◌, sym, ap₂, ◌∙◌}
 use Rattle.std.specs.Prelude.{Result}
 use mathlib.Core.Bool.{Bool}
-use mathlib.Core.List.{List}
+use mathlib.Core.List.{List, map}
 use Prim.Native.Nat.{ℕ, ◌+◌, ◌-◌}
 use lib.ListN.{length, get_or, take}
-use Rattle.lists.specs.Lists.{pad}
+use Rattle.lists.specs.Lists.{any, lead, pad}
 use Rattle.lists.proofs.One.{one_result, one_answer, one_call}
 use Rattle.clock.specs.declared.Reading.{Reading}
 use Rattle.orders.specs.declared.Order.{Order}
@@ -19,13 +19,14 @@ use Rattle.host.specs.declared.Sent.{Sent}
 use Rattle.host.specs.declared.Acted.{Acted}
 use Rattle.host.specs.declared.Ticked.{Ticked}
 use Rattle.host.specs.declared.Refusal.{Refusal}
-use Rattle.host.specs.State.{no_reading, bare, framed, sound}
+use Rattle.host.specs.State.{no_reading, bare, framed, sound, same_name}
+use Rattle.host.specs.Inside.{stored}
 use Rattle.host.specs.Entries.{entry_of}
 use Rattle.host.specs.Answers.{number, of_plan, refusal_of, says, says_tick}
 use Rattle.host.specs.Make.{made, make_refusal, make_host}
 use Rattle.host.specs.Start.{with_start, start_answer, start_says, start_host}
-use Rattle.host.specs.Receive.{receive_answer, receive_says, receive_host}
-use Rattle.host.specs.Tick.{tick_answer, tick_says, tick_host, tick_list}
+use Rattle.host.specs.Receive.{same_held, other_held, receive_answer, receive_says, receive_host}
+use Rattle.host.specs.Tick.{due, tick_answer, tick_says, tick_host, tick_list}
 use Rattle.host.proofs.Numbers.{made_by, made_back, send_by, send_back, tick_by, tick_back}
 
 pub is_sound_one : (h : Host) (r s : Bool) → r ≡ sound h → s ≡ sound h → r ≡ s
@@ -33,6 +34,21 @@ is_sound_one h r s = one_result
 
 pub is_framed_one : (f : Frame) (r s : Bool) → r ≡ framed (bare f) → s ≡ framed (bare f) → r ≡ s
 is_framed_one f r s = one_result
+
+-- ---- the walks over a history, l, in whatever form it is stored: f tells the order that stands in a place
+
+module _ {A : Type 0} (f : A → Held) where
+  pub is_sound_in_one : (g : Frame) (l : List A) (r s : Bool) → r ≡ sound (stored g (map f l)) → s ≡ sound (stored g (map f l)) → r ≡ s
+  is_sound_in_one g l r s = one_result
+
+  pub due_in_front_one : (l : List A) (Δ : ℕ) (u : Reading) (r s : ℕ) → r ≡ length (lead (due Δ u.0) (map f l)) → s ≡ length (lead (due Δ u.0) (map f l)) → r ≡ s
+  due_in_front_one l Δ u r s = one_result
+
+  pub look_one : (l : List A) (x : Held) (r s : Seen)
+      → (r.same ≡ any (same_held x) (map f l)) × ((r.other ≡ any (other_held x) (map f l)) × (r.named ≡ any (same_name x) (map f l)))
+      → (s.same ≡ any (same_held x) (map f l)) × ((s.other ≡ any (other_held x) (map f l)) × (s.named ≡ any (same_name x) (map f l)))
+      → (r.same ≡ s.same) × ((r.other ≡ s.other) × (r.named ≡ s.named))
+  look_one l x r s a b = (one_result a.0 b.0, (one_result a.1.0 b.1.0, one_result a.1.1 b.1.1))
 
 pub newest_one : (l : List Reading) (k : ℕ) (r s : Reading) → r ≡ get_or l (k - 1) no_reading → s ≡ get_or l (k - 1) no_reading → r ≡ s
 newest_one l k r s = one_result

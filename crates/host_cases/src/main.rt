@@ -3,14 +3,14 @@
 
 mod calls;
 mod drawn;
-mod lent;
+mod networks;
 mod rows;
 mod show;
 
 use std::io;
 
 fn main(rt: HostRuntime) -> io::Result<()> {
-    rows::run(&rt, rt.stdin())?;
+    rows::each(&rt, rt.stdin())?;
     drawn::many(&rt, 1, 2, 400)?;
     drawn::many(&rt, 2, 1, 400)
 }

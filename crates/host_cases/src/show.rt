@@ -1,27 +1,24 @@
 // A line for each answer.
-use host::{Host, Refusal, SendAnswer, TickAnswer, Verdict, number_of};
+use host::{Host, Refusal, Sent};
 use std::io;
 
-pub(crate) fn made(rt: &impl Print, answer: Verdict, host: Host) -> io::Result<()> {
-    print!(rt; "make")?;
+pub(crate) fn made(rt: &impl Print, answer: Result<Host, Refusal>, host: Host) -> io::Result<()> {
     match answer {
-        Verdict::Clear => {
-            number(rt, host.d as u64)?;
-            number(rt, host.bound)?;
-        }
-        Verdict::Refused(r) => refused(rt, r)?,
+        Ok(_) => print!(rt; "make {} {}", host.d, host.bound)?,
+        Err(refusal) => refused(rt, "make", refusal)?,
     }
     state(rt, host)
 }
 
-pub(crate) fn acted(rt: &impl Print, call: &str, answer: SendAnswer, host: Host) -> io::Result<()> {
-    print!(rt; "{call}")?;
+pub(crate) fn sent(
+    rt: &impl Print,
+    call: &str,
+    answer: Result<Sent, Refusal>,
+    host: Host,
+) -> io::Result<()> {
     match answer {
-        SendAnswer::Sent { links, hop } => {
-            number(rt, links as u64)?;
-            number(rt, hop as u64)?;
-        }
-        SendAnswer::Refused(r) => refused(rt, r)?,
+        Ok(sent) => print!(rt; "{call} {} {}", sent.links, sent.hop)?,
+        Err(refusal) => refused(rt, call, refusal)?,
     }
     state(rt, host)
 }
@@ -29,48 +26,26 @@ pub(crate) fn acted(rt: &impl Print, call: &str, answer: SendAnswer, host: Host)
 // The bytes lent, up to the first that no entry has.
 pub(crate) fn ticked(
     rt: &impl Print,
-    answer: TickAnswer,
+    answer: Result<usize, Refusal>,
     out: &[u8; 600],
     host: Host,
 ) -> io::Result<()> {
-    print!(rt; "tick")?;
     match answer {
-        TickAnswer::Delivered(count) => {
-            number(rt, count as u64)?;
-            bytes(rt, out, count)?;
+        Ok(count) => {
+            print!(rt; "tick {count}:")?;
+            for byte in out.chunks(16).take(count).flatten() {
+                print!(rt; " {byte}")?;
+            }
         }
-        TickAnswer::Refused(r) => refused(rt, r)?,
+        Err(refusal) => refused(rt, "tick", refusal)?,
     }
     state(rt, host)
 }
 
-fn bytes(rt: &impl Print, out: &[u8; 600], count: usize) -> io::Result<()> {
-    print!(rt; ":")?;
-    for i in 0..600usize {
-        if i / 16 < count {
-            byte(rt, out[i])?;
-        }
-    }
-    Ok(())
-}
-
-fn byte(rt: &impl Print, b: u8) -> io::Result<()> {
-    number(rt, b as u64)
-}
-
-fn refused(rt: &impl Print, r: Refusal) -> io::Result<()> {
-    print!(rt; " refused")?;
-    number(rt, number_of(r) as u64)
+fn refused(rt: &impl Print, call: &str, refusal: Refusal) -> io::Result<()> {
+    print!(rt; "{call} refused {}", u8::from(refusal))
 }
 
 fn state(rt: &impl Print, host: Host) -> io::Result<()> {
-    print!(rt; ",")?;
-    number(rt, host.held as u64)?;
-    number(rt, host.started as u64)?;
-    number(rt, host.last.0)?;
-    println!(rt)
-}
-
-fn number(rt: &impl Print, n: u64) -> io::Result<()> {
-    print!(rt; " {n}")
+    println!(rt; ", {} {} {}", host.held, host.started, host.last.0)
 }

@@ -18,5 +18,6 @@ pub mod Order
 pub mod Listed
 pub mod Rises
 pub mod Leads
+pub mod Moves
 pub mod Ranks
 pub mod ByteLaws

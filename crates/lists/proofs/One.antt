@@ -2,8 +2,9 @@
 -- Assumes nothing.
 use mathlib.Core.Path.{◌≡◌, sym, ap, ◌∙◌}
 use mathlib.Core.Bool.{Bool}
-use mathlib.Core.List.{List}
-use Prim.Native.Nat.{ℕ}
+use mathlib.Core.List.{List, [], ◌∷◌, ◌++◌}
+use Prim.Native.Nat.{ℕ, ◌+◌}
+use lib.ListN.{length, take, drop}
 use Rattle.lists.specs.Lists.{put_in}
 
 -- a number, a truth, a list or a state that the promise names
@@ -23,3 +24,11 @@ one_call says back leads g h r s x y = (one_result x.0 y.0, one_answer says back
 
 pub insert_one : {A : Type 0} (before : A → A → Bool) (used : ℕ) (x : A) (entries new other : List A) → new ≡ put_in before x used entries → other ≡ put_in before x used entries → new ≡ other
 insert_one before used x entries new other = one_result
+
+pub open_at_one : {A : Type 0} (at : ℕ) (x : A) (entries new other : List A) → new ≡ take (length entries) (take at entries ++ (x ∷ drop at entries))
+    → other ≡ take (length entries) (take at entries ++ (x ∷ drop at entries)) → new ≡ other
+open_at_one at x entries new other = one_result
+
+pub close_at_one : {A : Type 0} (at : ℕ) (z : A) (entries new other : List A) → new ≡ take (length entries) (take at entries ++ drop (at + 1) entries ++ (z ∷ []))
+    → other ≡ take (length entries) (take at entries ++ drop (at + 1) entries ++ (z ∷ [])) → new ≡ other
+close_at_one at z entries new other = one_result

@@ -9,12 +9,13 @@ use native.Mathlib.Nat.{zero-lt-suc}
 use native.Mathlib.Omega.{arith}
 use borrow.Author.Tests.{le-ltb, lt-ltb, ltb-true, eqb-true, eq-eqb}
 use lib.Dec.{eqb, ltb}
-use lib.ListN.{length, take, drop, set, length-drop}
-use lib.Seq.{set_split, take-take, take-append-le, drop_at, paste, length-paste, length-take-le}
+use lib.ListN.{length, take, drop, set}
+use lib.Seq.{take-take, paste, length-take-le}
 use Rattle.std.specs.Prelude.{slice_get, IsSomeAnd}
 use Rattle.std.proofs.lemmas.List.{drop-take}
 use Rattle.lists.specs.Lists.{all, rising, insert, insert_late, put_in}
 use Rattle.lists.proofs.Bools.{and_left_lem, and_right, or_cases, or_true_left, or_true_right}
+use Rattle.lists.proofs.Moves.{opened}
 use Rattle.lists.proofs.Order.{rising_tail, from_less}
 use Rattle.lists.proofs.Rises.{first_before}
 
@@ -57,29 +58,11 @@ module _ {A : Type 0} (r : A → A → Bool) (x : A) where
   moved_put : (l : List A) (n k : ℕ) → n < length l → k ≤ n
       → set (paste l (k + 1) (drop k l) (n - k)) k x ≡ (take k (take n l) ++ (x ∷ drop k (take n l))) ++ drop (n + 1) l
   moved_put l n k fits le =
-      set_split (paste l (k + 1) (drop k l) (n - k)) k x long
-      ∙ ap₂ (λ (s t : List A). s ++ (x ∷ t)) (front ∙ sym (take-take k n l le)) (behind ∙ ap₂ (λ (s t : List A). s ++ t) (sym between) end)
+      opened x l k (n - k) (omega arith)
+      ∙ ap₂ (λ (s t : List A). s ++ (x ∷ t)) (sym (take-take k n l le)) (ap₂ (λ (s t : List A). s ++ t) (sym between) end)
       ∙ sym (append_assoc (take k (take n l)) (x ∷ drop k (take n l)) (drop (n + 1) l))
     where
-      first : length (take (k + 1) l) ≡ k + 1
-      first = length-take-le (k + 1) l (omega arith)
-
-      long : k < length (paste l (k + 1) (drop k l) (n - k))
-      long = let e = length-paste l (k + 1) (drop k l) (n - k) (omega arith) (let d = length-drop k l in omega arith) in omega arith
-
-      split : paste l (k + 1) (drop k l) (n - k) ≡ take (k + 1) l ++ ((take (n - k) (drop k l)) ++ drop (k + 1 + (n - k)) l)
-      split = append_assoc (take (k + 1) l) (take (n - k) (drop k l)) (drop (k + 1 + (n - k)) l)
-
-      front : take k (paste l (k + 1) (drop k l) (n - k)) ≡ take k l
-      front =
-          ap (take k) split
-          ∙ take-append-le k (take (k + 1) l) ((take (n - k) (drop k l)) ++ drop (k + 1 + (n - k)) l) (omega (arith, first))
-          ∙ take-take k (k + 1) l (omega arith)
-
-      behind : drop (suc k) (paste l (k + 1) (drop k l) (n - k)) ≡ (take (n - k) (drop k l)) ++ drop (k + 1 + (n - k)) l
-      behind = ap (drop (suc k)) split ∙ drop_at (take (k + 1) l) ((take (n - k) (drop k l)) ++ drop (k + 1 + (n - k)) l) (suc k) (omega (arith, first))
-
-      between : drop k (take n l) ≡ (take (n - k) (drop k l))
+      between : drop k (take n l) ≡ take (n - k) (drop k l)
       between = let whole : n ≡ k + (n - k) = omega arith in ap (λ (m : ℕ). drop k (take m l)) whole ∙ drop-take k (n - k) l
 
       end : drop (k + 1 + (n - k)) l ≡ drop (n + 1) l

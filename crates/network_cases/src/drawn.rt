@@ -2,15 +2,13 @@
 ghost use Rattle.std.specs.Prelude.{◌<◌, ◌≤◌};
 
 use network::{Link, Plan};
-use std::io;
+use std::{array, io};
 
 pub(crate) fn many(rt: &impl Print, count: u64) -> io::Result<()> {
     let mut seed: u64 = 2026;
-    let mut i: u64 = 0;
-    while i < count {
+    for _ in 0..count {
         crate::answer(rt, drawn(seed))?;
         seed = after(seed, 8);
-        i += 1;
     }
     Ok(())
 }
@@ -32,14 +30,7 @@ fn drawn(seed: u64) -> Plan {
 fn pairs(seed: u64, hosts: u8) -> [Link; 12]
     requires { (2 ≤ hosts) × (hosts ≤ 9) }
 {
-    let mut links = [Link { a: 0, b: 0 }; 12];
-    let mut i: u8 = 0;
-    while i < 12 {
-        let at = i as usize;
-        links[at] = place(seed, hosts, i);
-        i += 1;
-    }
-    links
+    array::from_fn(|i| place(seed, hosts, i as u8))
 }
 
 // Link i: of the ring, or a chord over one host, which repeats another link where there are few hosts.
@@ -58,10 +49,9 @@ fn place(seed: u64, hosts: u8, i: u8) -> Link
 }
 
 fn joined(a: u8, b: u8) -> Link {
-    if a < b {
-        Link { a, b }
-    } else {
-        Link { a: b, b: a }
+    Link {
+        a: a.min(b),
+        b: a.max(b),
     }
 }
 
@@ -72,18 +62,12 @@ fn draw(seed: u64, k: u64, limit: u8) -> u8
     if limit == 0 {
         return 0;
     }
-    (after(seed, k) / 65536 % (limit as u64)) as u8
+    (after(seed, k) / 65536 % u64::from(limit)) as u8
 }
 
 // The seed k draws on.
 fn after(seed: u64, k: u64) -> u64 {
-    let mut s = seed;
-    let mut i: u64 = 0;
-    while i < k {
-        s = next(s);
-        i += 1;
-    }
-    s
+    (0..k).fold(seed, |s, _| next(s))
 }
 
 fn next(seed: u64) -> u64 {

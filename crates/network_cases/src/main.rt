@@ -2,9 +2,12 @@
 // What the lines should be is worked out by checks/network.py, which reads 01 on its own.
 #![tactic(auto)]
 
+ghost use Rattle.std.specs.Prelude.{◌<◌};
+
 mod drawn;
 
-use network::{Link, Plan, Planned, Timing};
+use network::planning::plan;
+use network::{Link, NO_LINK, Plan};
 use std::io;
 
 fn main(rt: HostRuntime) -> io::Result<()> {
@@ -16,84 +19,80 @@ fn main(rt: HostRuntime) -> io::Result<()> {
 
 // Refusal 1, number by number.
 fn numbers(rt: &impl Print, p: Plan) -> io::Result<()> {
-    let mut q = p;
-    q.hosts = 0;
-    q.faulty_hosts = 255;
-    answer(rt, q)?;
-    q.hosts = 1;
-    answer(rt, q)?;
-    q = p;
-    q.hosts = 9;
-    answer(rt, q)?;
-    q = p;
-    q.link_count = 0;
-    answer(rt, q)?;
-    q.link_count = 13;
-    answer(rt, q)?;
-    q.link_count = 255;
-    answer(rt, q)?;
-    sizes(rt, p, 0)?;
-    sizes(rt, p, 1)?;
-    sizes(rt, p, 64)?;
-    sizes(rt, p, 65)?;
-    sizes(rt, p, 255)
-}
-
-fn sizes(rt: &impl Print, p: Plan, size: u8) -> io::Result<()> {
-    let mut q = p;
-    q.delay = size;
-    answer(rt, q)?;
-    q = p;
-    q.skew = size;
-    answer(rt, q)
+    for (hosts, faulty_hosts) in [(0, 255), (1, 255), (9, 0)] {
+        answer(
+            rt,
+            Plan {
+                hosts,
+                faulty_hosts,
+                ..p
+            },
+        )?;
+    }
+    for link_count in [0, 13, 255] {
+        answer(rt, Plan { link_count, ..p })?;
+    }
+    for size in [0, 1, 64, 65, 255] {
+        answer(rt, Plan { delay: size, ..p })?;
+        answer(rt, Plan { skew: size, ..p })?;
+    }
+    Ok(())
 }
 
 // The planned numbers of faults: out of range, parting, and borne.
 fn faults(rt: &impl Print, p: Plan) -> io::Result<()> {
-    let mut q = p;
-    q.faulty_hosts = 2;
-    answer(rt, q)?;
-    q.faulty_hosts = 1;
-    answer(rt, q)?;
-    q.faulty_hosts = 0;
-    q.faulty_links = 1;
-    answer(rt, q)?;
-    q.faulty_links = 2;
-    answer(rt, q)?;
-    q.faulty_links = 12;
-    answer(rt, q)?;
-    q.faulty_links = 13;
-    answer(rt, q)
+    for (faulty_hosts, faulty_links) in [(2, 0), (1, 0), (0, 1), (0, 2), (0, 12), (0, 13)] {
+        answer(
+            rt,
+            Plan {
+                faulty_hosts,
+                faulty_links,
+                ..p
+            },
+        )?;
+    }
+    Ok(())
 }
 
 // Refusal 2, which comes after 1 and before 3; and a place that is not used.
 fn links(rt: &impl Print, p: Plan) -> io::Result<()> {
+    for (a, b) in [(0, 3), (3, 4), (2, 0), (1, 1), (0, 1)] {
+        answer(rt, with_link(p, 1, Link { a, b }))?;
+    }
+    let twice = with_link(p, 1, Link { a: 0, b: 1 });
+    answer(rt, Plan { skew: 0, ..twice })?;
+    let again = with_link(p, 2, Link { a: 0, b: 2 });
+    answer(
+        rt,
+        Plan {
+            faulty_hosts: 1,
+            ..again
+        },
+    )?;
+    let behind = with_link(p, 5, Link { a: 9, b: 9 });
+    answer(rt, behind)?;
+    answer(
+        rt,
+        Plan {
+            link_count: 2,
+            ..behind
+        },
+    )
+}
+
+fn with_link(p: Plan, at: usize, link: Link) -> Plan
+    requires { at < 12 }
+{
     let mut q = p;
-    q.links[1] = pair(0, 3);
-    answer(rt, q)?;
-    q.links[1] = pair(3, 4);
-    answer(rt, q)?;
-    q.links[1] = pair(2, 0);
-    answer(rt, q)?;
-    q.links[1] = pair(1, 1);
-    answer(rt, q)?;
-    q.links[1] = pair(0, 1);
-    answer(rt, q)?;
-    q.skew = 0;
-    answer(rt, q)?;
-    q = p;
-    q.links[2] = pair(0, 2);
-    q.faulty_hosts = 1;
-    answer(rt, q)?;
-    q = p;
-    q.links[5] = pair(9, 9);
-    answer(rt, q)?;
-    q.link_count = 2;
-    answer(rt, q)
+    q.links[at] = link;
+    q
 }
 
 fn triangle() -> Plan {
-    let none = pair(0, 0);
+    let mut links = [NO_LINK; 12];
+    links[0] = Link { a: 0, b: 1 };
+    links[1] = Link { a: 0, b: 2 };
+    links[2] = Link { a: 1, b: 2 };
     Plan {
         hosts: 3,
         faulty_hosts: 0,
@@ -101,46 +100,20 @@ fn triangle() -> Plan {
         faulty_links: 0,
         delay: 10,
         skew: 3,
-        links: [
-            pair(0, 1),
-            pair(0, 2),
-            pair(1, 2),
-            none,
-            none,
-            none,
-            none,
-            none,
-            none,
-            none,
-            none,
-            none,
-        ],
+        links,
     }
-}
-
-fn pair(a: u8, b: u8) -> Link {
-    Link { a, b }
 }
 
 // The refusal, or d and each rule set's bound and window.
 pub(crate) fn answer(rt: &impl Print, p: Plan) -> io::Result<()> {
-    match network::planning::plan(p) {
-        Planned::Accepted(b) => {
-            print!(rt; "d {}", b.d)?;
-            timing(rt, b.first)?;
-            timing(rt, b.second)?;
-            println!(rt)
+    match plan(p) {
+        Ok(found) => {
+            let (d, first, second) = (found.d, found.first, found.second);
+            println!(rt;
+                "d {d}, {} {}, {} {}",
+                first.bound, first.window, second.bound, second.window
+            )
         }
-        Planned::OutOfRange => refused(rt, 1),
-        Planned::BadLink => refused(rt, 2),
-        Planned::Parted => refused(rt, 3),
+        Err(refusal) => println!(rt; "refused {}", u8::from(refusal)),
     }
-}
-
-fn timing(rt: &impl Print, t: Timing) -> io::Result<()> {
-    print!(rt; ", {} {}", t.bound, t.window)
-}
-
-fn refused(rt: &impl Print, number: u64) -> io::Result<()> {
-    println!(rt; "refused {number}")
 }

@@ -1,7 +1,7 @@
 // Reads a schedule from standard input and writes the report of its replay to standard output.
 #![tactic(auto)]
 
-use report::Told;
+use report::report;
 use std::io;
 use std::io::Read;
 
@@ -11,8 +11,7 @@ fn main(rt: HostRuntime) -> io::Result<()> {
     let read = io::copy(&mut rt.stdin().take(8193), &mut &mut bytes[..])?;
     // Enough for every report.
     let mut out = [0u8; 20480];
-    let told = report::report(&bytes[..read.min(8193) as usize], &mut out);
-    if let Told::Written(count) = told {
+    if let Ok(count) = report(&bytes[..read.min(8193) as usize], &mut out) {
         rt.write_all(&out[..count])?;
     }
     Ok(())

@@ -2,9 +2,7 @@
 // writes the input from the incidents, and what must come of them from their texts.
 #![tactic(auto)]
 
-ghost use Rattle.std.specs.Prelude.{◌<◌, length, IfOk};
-
-use report::Told;
+use report::report;
 use std::io;
 use std::io::Read;
 
@@ -15,39 +13,32 @@ fn main(rt: HostRuntime) -> io::Result<()> {
 }
 
 fn each(rt: &impl Print, bytes: &[u8]) -> io::Result<()> {
-    let mut at: usize = 0;
-    let mut k: u64 = 0;
-    while at < bytes.len() {
-        heading(rt, k)?;
-        at = one(rt, bytes, at)?;
-        k += 1;
+    let mut rest = bytes;
+    // Each schedule has two bytes at least, so there are fewer of them than bytes.
+    for k in 0..bytes.len() {
+        if rest.is_empty() {
+            break;
+        }
+        println!(rt; "incident {k}")?;
+        let Some((schedule, after)) = first(rest) else {
+            break;
+        };
+        replay(rt, schedule)?;
+        rest = after;
     }
     Ok(())
 }
 
-fn heading(rt: &impl Print, k: u64) -> io::Result<()> {
-    println!(rt; "incident {k}")
-}
-
-// Replays the schedule at a place, and tells where the next one begins.
-fn one(rt: &impl Print, bytes: &[u8], at: usize) -> io::Result<usize>
-    requires { at < length bytes.now }
-    ensures { IfOk result (λ next. at < next) }
-{
-    let start = at + 2;
-    let end = start + fields::value_at(bytes, at, 2) as usize;
-    if bytes.len() < end {
-        return Ok(bytes.len());
-    }
-    replay(rt, &bytes[start..end])?;
-    Ok(end)
+// The schedule that stands first, and what comes after it.
+fn first(bytes: &[u8]) -> Option<(&[u8], &[u8])> {
+    let (length, rest) = bytes.split_first_chunk::<2>()?;
+    rest.split_at_checked(usize::from(u16::from_be_bytes(*length)))
 }
 
 fn replay(rt: &impl Print, bytes: &[u8]) -> io::Result<()> {
     // Enough for every report.
     let mut out = [0u8; 20480];
-    let told = report::report(bytes, &mut out);
-    if let Told::Written(count) = told {
+    if let Ok(count) = report(bytes, &mut out) {
         rt.write_all(&out[..count])?;
     }
     Ok(())

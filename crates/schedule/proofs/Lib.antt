@@ -1,5 +1,6 @@
 -- The laws of schedules, for the proofs here and for callers.
 pub mod Walks
+pub mod Ranges
 pub mod Tallies
 pub mod Verdicts
 pub mod Records

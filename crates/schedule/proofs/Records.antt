@@ -4,15 +4,13 @@ use mathlib.Core.Bool.{true, false, cond}
 use mathlib.Core.List.{List}
 use Prim.Native.Nat.{ℕ, ◌+◌, ◌-◌, ◌≤◌, ◌<◌}
 use native.Mathlib.Omega.{arith}
-use borrow.Author.Tests.{not-false, leb-true, eqb-true, ltb-false, eq-eqb, ne_eqb, lt-ltb, le-ltb, lt-leb}
+use borrow.Author.Tests.{not-false, eqb-true, ltb-false, eq-eqb, ne_eqb, lt-ltb, le-ltb, lt-leb}
 use lib.Dec.{ltb, eqb}
-use lib.ListN.{length}
 use Rattle.lists.proofs.Bools.{and_left_lem, and_right}
-use Rattle.lists.proofs.TestLaws.{all_each, none_pass, pass_none}
+use Rattle.lists.proofs.TestLaws.{none_pass, pass_none}
 use Rattle.lists.proofs.SearchLaws.{each_true, before_least}
 use Rattle.fields.specs.Fields.{stated_at}
 use Rattle.network.specs.Network.{plan_tests, plan_refusal}
-use Rattle.schedule.specs.declared.shape.Tally.{Tally}
 use Rattle.schedule.specs.Shape.{place, records, links, starts, tag, tag_among, fits_at, start_fits, fate_fits, right_at, right, is_schedule}
 use Rattle.schedule.specs.Schedule.{plan_of, faults_of, end_of, first_start, first_fate}
 use Rattle.schedule.specs.Rules.{faults_within, offsets_out, start_out, fate_out, out_at, outside, first_outside}
@@ -50,19 +48,10 @@ module _ (l s i : ℕ) where
 -- ---- what was found of the whole
 
 module _ (bs : List ℕ) where
-  abbrev counted : Tally
-  counted = record { records = records bs; links = links bs; starts = starts bs; end = place bs (records bs) }
-
-  whole_shape : is_schedule bs ≡ true → Shape bs counted
-  unfolding is_schedule
-  whole_shape s =
-      let short : length bs ≤ 8192 = leb-true (length bs) 8192 (all_each _ s).0 in
-      shape bs counted (record { counted = record { short = short; records_are = refl; links_are = refl; starts_are = refl; end_is = refl }; shape = s })
-
   module _ (accepted : read_refusal bs ≡ 0) where
-    pub sound_shape : Shape bs counted
+    pub sound_shape : Shape bs
     unfolding read_tests plan_tests
-    sound_shape = whole_shape (not-false (is_schedule bs) (none_pass (read_tests bs) refl accepted).0)
+    sound_shape = shape bs (not-false (is_schedule bs) (none_pass (read_tests bs) refl accepted).0)
 
     pub plan_clear : plan_refusal (plan_of bs) ≡ 0
     unfolding read_tests plan_tests

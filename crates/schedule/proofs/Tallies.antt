@@ -1,33 +1,49 @@
--- Counting the records: what the counts are after each turn, and what they are at the end. Assumes nothing.
-use mathlib.Core.Path.{◌≡◌, sym, ap, ap₂, ◌∙◌}
-use mathlib.Core.Bool.{true, cond}
+-- Counting the records: what the counts are after each turn, what they are at the end, and how large they are. Assumes nothing.
+use mathlib.Core.Path.{◌≡◌, refl, sym, ap, ap₂, ◌∙◌}
+use mathlib.Core.Bool.{Bool, true, false, cond}
+use mir.Val.{bool_byte}
 use mathlib.Core.List.{List}
 use Prim.Native.Nat.{ℕ, ◌+◌, ◌≤◌, ◌<◌}
 use native.Mathlib.Omega.{arith}
 use borrow.Author.Count.{below_more}
 use borrow.Author.Tests.{leb-true}
-use lib.Dec.{eqb}
+use lib.Dec.{leb, eqb}
 use lib.ListN.{length, get_or}
 use Rattle.lists.specs.Searches.{count, each}
 use Rattle.lists.proofs.CountLaws.{count_start, count_next, count_le}
 use Rattle.lists.proofs.SearchLaws.{least_bound}
 use Rattle.lists.proofs.TestLaws.{all_each}
-use Rattle.schedule.specs.declared.shape.Tally.{Tally}
-use Rattle.schedule.specs.Shape.{place, records, tagged, links, starts, right, is_schedule}
-use Rattle.schedule.specs.Inside.{Next, Counted, Shaped, Run}
+use Rattle.fields.specs.Fields.{stated_at}
+use Rattle.schedule.specs.Shape.{place, records, tagged, links, starts, right_at, right, is_schedule}
 use Rattle.schedule.proofs.Walks.{place_start, place_step, all_met}
 
--- the records up to the tally's end, each of which begins within the bytes
-pub record Partly (bs : List ℕ) (t : Tally) : Type 0 where
-  pub end_is : t.end ≡ place bs t.records
-  pub links_are : t.links ≡ count t.records (tagged bs 17)
-  pub starts_are : t.starts ≡ count t.records (tagged bs 21)
-  pub far : t.records ≤ t.end
-  pub few : t.records ≤ length bs
-  pub inside : (j : ℕ) → j < t.records → place bs j < length bs
+-- k records up to a place, l of them links and s starts, each of which begins within the bytes
+pub record Partly (bs : List ℕ) (k l s at : ℕ) : Type 0 where
+  pub end_is : at ≡ place bs k
+  pub links_are : l ≡ count k (tagged bs 17)
+  pub starts_are : s ≡ count k (tagged bs 21)
+  pub far : k ≤ at
+  pub few : k ≤ length bs
+  pub inside : (j : ℕ) → j < k → place bs j < length bs
+
+-- the counts of all records
+pub record Counted (bs : List ℕ) (k l s at : ℕ) : Type 0 where
+  pub count_is : k ≡ records bs
+  pub links_are : l ≡ links bs
+  pub starts_are : s ≡ starts bs
+  pub end_is : at ≡ place bs k
+
+-- a test as a number
+pub one_if : (t : Bool) → bool_byte t ≡ cond t 1 0
+one_if true = refl
+one_if false = refl
+
+pub one_most : (t : Bool) → bool_byte t ≤ 1
+one_most true = omega arith
+one_most false = omega arith
 
 module _ (bs : List ℕ) where
-  pub partly_start : Partly bs (record { records = 0; links = 0; starts = 0; end = 0 })
+  pub partly_start : Partly bs 0 0 0 0
   partly_start =
       record {
         end_is = sym (place_start bs);
@@ -38,79 +54,69 @@ module _ (bs : List ℕ) where
         inside = λ j h. let none : ⊥ = omega arith in absurd none;
       }
 
-  module _ (t r : Tally) (p : Partly bs t) (n : Next bs t r) where
-    counted_next : (tag x y : ℕ) → x ≡ count t.records (tagged bs tag) → y ≡ x + cond (eqb (get_or bs t.end 0) tag) 1 0
-        → y ≡ count r.records (tagged bs tag)
-    counted_next tag x y e f =
-        f
-        ∙ ap₂ ◌+◌ e (ap (λ (at : ℕ). cond (eqb (get_or bs at 0) tag) 1 0) p.end_is)
-        ∙ sym (count_next (tagged bs tag) t.records)
-        ∙ ap (λ (k : ℕ). count k (tagged bs tag)) (sym n.records)
+  module _ (k l s at : ℕ) (p : Partly bs k l s at) where
+    -- one more is counted where it has the tag
+    counted_next : (tag x : ℕ) → x ≡ count k (tagged bs tag) → x + cond (eqb (get_or bs at 0) tag) 1 0 ≡ count (k + 1) (tagged bs tag)
+    counted_next tag x e =
+        ap₂ ◌+◌ e (ap (λ (at : ℕ). cond (eqb (get_or bs at 0) tag) 1 0) p.end_is)
+        ∙ sym (count_next (tagged bs tag) k)
 
-    pub partly_next : t.end < length bs → Partly bs r
+    pub partly_next : at < length bs
+        → Partly bs (k + 1) (l + cond (eqb (get_or bs at 0) 17) 1 0) (s + cond (eqb (get_or bs at 0) 21) 1 0) (at + 3 + stated_at bs at)
     partly_next h =
-        let more : t.records + 1 ≤ length bs = omega (arith, p.far) in
-        let in_bytes : place bs t.records < length bs = rw (← p.end_is) h in
+        let in_bytes : place bs k < length bs = rw (← p.end_is) h in
         record {
-          end_is = n.end ∙ place_step bs t.records t.end p.end_is ∙ ap (place bs) (sym n.records);
-          links_are = counted_next 17 t.links r.links p.links_are n.links;
-          starts_are = counted_next 21 t.starts r.starts p.starts_are n.starts;
-          far = omega (arith, p.far, n.end, n.records);
-          few = omega (arith, n.records);
-          inside = rw n.records (below_more _ _ p.inside in_bytes);
+          end_is = place_step bs k at p.end_is;
+          links_are = counted_next 17 l p.links_are;
+          starts_are = counted_next 21 s p.starts_are;
+          far = omega (arith, p.far);
+          few = omega (arith, p.far);
+          inside = below_more _ _ p.inside in_bytes;
         }
 
-  pub partly_end : (t : Tally) → Partly bs t → length bs ≤ t.end → length bs ≤ 8192 → Counted bs t
-  partly_end t p h s =
-      let e : t.records ≡ records bs = all_met bs t.records p.few p.inside (rw p.end_is at h) in
-      record {
-        short = s;
-        records_are = e;
-        links_are = p.links_are ∙ ap (λ (k : ℕ). count k (tagged bs 17)) e;
-        starts_are = p.starts_are ∙ ap (λ (k : ℕ). count k (tagged bs 21)) e;
-        end_is = p.end_is ∙ ap (place bs) e;
-      }
+    pub partly_few : (l ≤ k) × (s ≤ k)
+    partly_few = (omega (arith, p.links_are, count_le k (tagged bs 17)), omega (arith, p.starts_are, count_le k (tagged bs 21)))
 
-  -- ---- what a whole tally says
+    pub partly_end : length bs ≤ at → Counted bs k l s at
+    partly_end h =
+        let e : k ≡ records bs = all_met bs k p.few p.inside (rw p.end_is at h) in
+        record {
+          count_is = e;
+          links_are = p.links_are ∙ ap (λ (k : ℕ). count k (tagged bs 17)) e;
+          starts_are = p.starts_are ∙ ap (λ (k : ℕ). count k (tagged bs 21)) e;
+          end_is = p.end_is;
+        }
 
-  pub record Small (t : Tally) : Type 0 where
-    pub records_few : t.records ≤ 8192
-    pub links_few : t.links ≤ t.records
-    pub starts_few : t.starts ≤ t.records
+  -- ---- how many there are
 
-  pub small : (t : Tally) → Counted bs t → Small t
+  pub records_few : records bs ≤ length bs
   unfolding records
-  small t k =
-      let r = least_bound (length bs) (λ (k : ℕ). lib.Dec.leb (length bs) (place bs k)) in
-      record {
-        records_few = omega (arith, r, k.records_are, k.short);
-        links_few = omega (arith, k.links_are, k.records_are, count_le (records bs) (tagged bs 17));
-        starts_few = omega (arith, k.starts_are, k.records_are, count_le (records bs) (tagged bs 21));
-      }
+  records_few = least_bound (length bs) (λ (k : ℕ). leb (length bs) (place bs k))
+
+  pub links_few : links bs ≤ records bs
+  links_few = count_le (records bs) (tagged bs 17)
+
+  pub starts_few : starts bs ≤ records bs
+  starts_few = count_le (records bs) (tagged bs 21)
 
   -- ---- what the shape says
 
-  pub record Shape (t : Tally) : Type 0 where
-    pub few_links : t.links ≤ 12
-    pub few_starts : t.starts ≤ 16
-    pub enough : t.links + t.starts + 4 ≤ t.records
+  pub record Shape : Type 0 where
+    pub few_links : links bs ≤ 12
+    pub few_starts : starts bs ≤ 16
+    pub enough : links bs + starts bs + 4 ≤ records bs
     pub rights : each (records bs) (right bs) ≡ true
 
-  pub shape : (t : Tally) → Shaped bs t → Shape t
+  pub shape : is_schedule bs ≡ true → Shape
   unfolding is_schedule
-  shape t s =
-      let k = s.counted in
-      let a = all_each _ s.shape in
-      let l : links bs ≤ 12 = leb-true (links bs) 12 a.1.1.0 in
-      let b : starts bs ≤ 16 = leb-true (starts bs) 16 a.1.1.1.0 in
-      let e : links bs + starts bs + 4 ≤ records bs = leb-true (links bs + starts bs + 4) (records bs) a.1.1.1.1.0 in
+  shape s =
+      let a = all_each _ s in
       record {
-        few_links = omega (arith, k.links_are);
-        few_starts = omega (arith, k.starts_are);
-        enough = omega (arith, k.links_are, k.starts_are, k.records_are);
+        few_links = leb-true (links bs) 12 a.1.1.0;
+        few_starts = leb-true (starts bs) 16 a.1.1.1.0;
+        enough = leb-true (links bs + starts bs + 4) (records bs) a.1.1.1.1.0;
         rights = a.1.1.1.1.1.0;
       }
 
-  -- so many records from one on are there
-  pub run : (t : Tally) (first n : ℕ) → Shaped bs t → first + n ≤ t.records → Run bs first n
-  run t first n s h = record { short = s.counted.short; there = omega (arith, s.counted.records_are) }
+  pub right_here : (l s k at : ℕ) → l ≡ links bs → s ≡ starts bs → at ≡ place bs k → right_at bs l s k at ≡ right bs k
+  right_here l s k at e f g = rw (e, f, g)

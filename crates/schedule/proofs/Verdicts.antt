@@ -16,16 +16,13 @@ use Rattle.network.specs.declared.Plan.{Plan}
 use Rattle.network.specs.declared.Bounds.{Bounds}
 use Rattle.network.specs.declared.PlanRefusal.{PlanRefusal}
 use Rattle.network.specs.declared.PlanRefusal.TheVariants.{OutOfRange, BadLink, Parted}
-use Rattle.network.proofs.Answers.{fine}
-use Rattle.network.proofs.Ranges.{ranges}
 use Rattle.schedule.specs.declared.Refusal.{Refusal}
 use Rattle.schedule.specs.declared.Refusal.TheVariants.{NotASchedule, Plan as Unplanned, OutsideRules}
 use Rattle.schedule.specs.declared.Schedule.{Schedule}
-use Rattle.schedule.specs.declared.shape.Tally.{Tally}
 use Rattle.schedule.specs.Shape.{records, is_schedule}
 use Rattle.schedule.specs.Schedule.{plan_of, schedule_of}
 use Rattle.schedule.specs.Rules.{outside, first_outside}
-use Rattle.schedule.specs.Inside.{Shaped, Judged, InNumbers}
+use Rattle.schedule.specs.Inside.{Judged}
 use Rattle.schedule.specs.Calls.{read_tests, read_refusal, answered, schedule_read, numbers, says, found}
 
 -- ---- what planning said
@@ -54,19 +51,16 @@ number_few Parted = refl
 pub unplanned : (p q : Plan) (r : PlanRefusal) → p ≡ q → said (Err r) ≡ planned p → number r ≡ plan_refusal q
 unplanned p q r e w = ap (λ (s : Said). s.refusal) w ∙ said_refusal p ∙ ap plan_refusal e
 
-pub judged : (bs : List ℕ) (t : Tally) (p : Plan) (b : Bounds) → Shaped bs t → p ≡ plan_of bs → said (Ok b) ≡ planned p → Judged bs t p b
-judged bs t p b s e w =
+pub judged : (bs : List ℕ) (p : Plan) (b : Bounds) → p ≡ plan_of bs → said (Ok b) ≡ planned p → Judged bs p b
+judged bs p b e w =
     let c : plan_refusal p ≡ 0 = sym (said_refusal p) ∙ sym (ap (λ (s : Said). s.refusal) w) in
-    record { shaped = s; plan_is = e; clear = c; bounds_are = ap (λ (s : Said). s.bounds) w ∙ said_bounds p c }
-
-pub in_numbers : (p : Plan) → plan_refusal p ≡ 0 → InNumbers p
-in_numbers p e = let r = ranges p (fine p e).ranges in record { hosts = r.hosts_high; links = r.links_high }
+    record { plan_is = e; clear = c; bounds_are = ap (λ (s : Said). s.bounds) w ∙ said_bounds p c }
 
 -- the rules are asked of the schedule's own parts
-pub first_is : (bs : List ℕ) (t : Tally) (p : Plan) (b : Bounds) (s : Schedule) (k : ℕ) → Judged bs t p b → s ≡ schedule_of bs
-    → k ≡ least t.records (outside p s.faults s.end bs) → k ≡ first_outside bs
+pub first_is : (bs : List ℕ) (p : Plan) (s : Schedule) (n k : ℕ) → n ≡ records bs → p ≡ plan_of bs → s ≡ schedule_of bs
+    → k ≡ least n (outside p s.faults s.end bs) → k ≡ first_outside bs
 unfolding schedule_of
-first_is bs t p b s k j e q = rw (e, j.plan_is, j.shaped.counted.records_are) at q
+first_is bs p s n k m j e q = rw (e, j, m) at q
 
 pub too_long : (bs : List ℕ) → 8192 < length bs → is_schedule bs ≡ false
 unfolding is_schedule all_of

@@ -13,7 +13,10 @@ use Rattle.lists.specs.Searches.{least}
 use Rattle.lists.proofs.SearchLaws.{before_least, le_least, least_le, least_bound}
 use Rattle.fields.specs.Fields.{stated_at}
 use Rattle.schedule.specs.Shape.{place, records}
-use Rattle.schedule.specs.Inside.{Run}
+
+-- byte i of a value that begins past a tag and a length
+pub past_head : (at i : ℕ) → at + 3 + i ≡ at + (3 + i)
+past_head at i = add_assoc at 3 i
 
 module _ (bs : List ℕ) where
   pub place_start : place bs 0 ≡ 0
@@ -27,22 +30,22 @@ module _ (bs : List ℕ) where
   pub place_step : (k at : ℕ) → at ≡ place bs k → at + 3 + stated_at bs at ≡ place bs (k + 1)
   place_step k at e = ap (λ (p : ℕ). p + 3 + stated_at bs p) e ∙ sym (place_next k)
 
-  -- the same, counted from a record on
-  pub place_after : (first i at : ℕ) → at ≡ place bs (first + i) → at + 3 + stated_at bs at ≡ place bs (first + (i + 1))
-  place_after first i at e = place_step (first + i) at e ∙ ap (place bs) (add_assoc first i 1)
+  -- where a record ends the next one begins
+  pub place_past : (k n at end : ℕ) (b : List ℕ) → n ≡ k + 1 → b ≡ bs → at ≡ place bs k → end ≡ at + 3 + stated_at b at → end ≡ place bs n
+  place_past k n at end b m same e f = f ∙ ap (λ (b : List ℕ). at + 3 + stated_at b at) same ∙ place_step k at e ∙ ap (place bs) (sym m)
 
   pub place_in : (k : ℕ) → k < records bs → place bs k < length bs
   unfolding records
   place_in k h = leb-false (length bs) (place bs k) (before_least (length bs) (λ k. leb (length bs) (place bs k)) k h)
+
+  pub place_low : (k at : ℕ) → length bs ≤ 8192 → k < records bs → at ≡ place bs k → at ≤ 8192
+  place_low k at short h e = let p = place_in k h in omega arith
 
   -- the record before begins no later
   pub place_before : (k : ℕ) → place bs (k - 1) ≤ place bs k
   unfolding place
   place_before zero = omega arith
   place_before (suc k) = let q : suc k - 1 ≡ k = omega arith in let e : place bs (suc k - 1) ≡ place bs k = ap (place bs) q in omega arith
-
-  pub in_run : (first count i : ℕ) → Run bs first count → i < count → place bs (first + i) < 8192
-  in_run first count i r h = let p = place_in (first + i) (omega (arith, r.there)) in omega (arith, r.short)
 
   -- k records begin before the end and no more do
   pub all_met : (k : ℕ) → k ≤ length bs → ((j : ℕ) → j < k → place bs j < length bs) → length bs ≤ place bs k → k ≡ records bs

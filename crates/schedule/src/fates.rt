@@ -1,47 +1,33 @@
 // The delay of each copy, by the fates of a schedule.
-ghost use Rattle.std.specs.Prelude.{◌≡◌, ◌≤◌, set};
-ghost use Rattle.schedule.specs.Schedule.{copy_at, delays_of};
-ghost use Rattle.schedule.specs.Inside.{Run};
+ghost use Rattle.std.specs.Prelude.{◌≡◌, ◌-◌, set};
+ghost use Rattle.schedule.specs.Schedule.{delays_of, first_fate};
 
-use crate::shape::next;
-use crate::taking::place_of;
+use crate::record::Record;
+use crate::taking::Records;
 
-// The delay of each copy by the fates from record `first` on.
-pub(crate) fn delays_of(bytes: &[u8], first: usize, count: usize) -> [u8; 384]
-    requires { Run bytes.now first count }
-    ensures { result ≡ delays_of bytes.now first count }
-{
-    let mut delays = [1u8; 384];
-    let mut at = place_of(bytes, first);
-    let mut i: usize = 0;
-    while i < count {
-        set_delay(
-            &mut delays,
-            copy_at(bytes, at + 3),
-            fields::byte_at(bytes, at + 6),
-        );
-        at = next(bytes, at);
-        i += 1;
+impl<'a> Records<'a> {
+    pub(crate) fn delays(self) -> [u8; 384]
+        ensures { let bs = self.entry.tally.bytes.now in result ≡ delays_of bs (first_fate bs) (self.entry.tally.count - first_fate bs) }
+    {
+        let bytes = self.tally.bytes;
+        let first = self.tally.links + self.tally.starts + 4;
+        let mut delays = [1u8; 384];
+        let mut at = self.record(first - 1).end();
+        for _ in 0..self.tally.count - first {
+            let here = Record { bytes, at };
+            set_delay(&mut delays, here.copy(), here.byte(3));
+            at = here.end();
+        }
+        delays
     }
-    delays
 }
 
 // One delay set; a number past the last copy is no copy.
 fn set_delay(delays: &mut [u8], copy: usize, delay: u8)
     ensures { delays.new ≡ set delays.old copy delay }
 {
+    // Not by `get_mut`: of the place that is not there its proof does not know that the slice stays.
     if copy < delays.len() {
         delays[copy] = delay;
     }
-}
-
-// The copy of the fate whose value begins at a place.
-pub(crate) fn copy_at(bytes: &[u8], at: usize) -> usize
-    requires { at ≤ 8195 }
-    ensures { result ≡ copy_at bytes.now at }
-{
-    let start = fields::byte_at(bytes, at) as usize;
-    let link = fields::byte_at(bytes, at + 1) as usize;
-    let direction = fields::byte_at(bytes, at + 2) as usize;
-    (start * 12 + link) * 2 + direction
 }

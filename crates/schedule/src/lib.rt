@@ -3,6 +3,7 @@
 
 mod answers;
 mod fates;
+mod record;
 mod rules;
 mod shape;
 mod starts;
@@ -10,9 +11,10 @@ mod taking;
 
 ghost use Rattle.std.specs.Prelude.{◌≡◌};
 ghost use Rattle.schedule.specs.Calls.{says, found, answered, schedule_read};
-ghost use Rattle.schedule.specs.Inside.{Shaped, Judged};
 
+use crate::rules::Terms;
 use crate::shape::Tally;
+use crate::taking::Records;
 pub use answers::{index_of, number_of};
 use clock::Tick;
 use network::{Bounds, Faults, Plan, PlanRefusal};
@@ -67,35 +69,21 @@ pub fn read(bytes: &[u8]) -> Result<Schedule, Refusal>
     if bytes.len() > LONGEST {
         return Err(Refusal::NotASchedule);
     }
-    let t = shape::tally_of(bytes);
-    if !shape::is_schedule(bytes, t) {
+    let tally = Tally::of(bytes);
+    if !tally.is_schedule() {
         return Err(Refusal::NotASchedule);
     }
-    planned(bytes, t)
-}
-
-// Bytes of the right shape: planning's refusal, then the rules.
-fn planned(bytes: &[u8], t: Tally) -> Result<Schedule, Refusal>
-    requires { Shaped bytes.now t }
-    ensures numbers { says result ≡ answered bytes.now }
-    ensures schedule { found result ≡ schedule_read bytes.now }
-{
-    let plan = taking::plan_of(bytes, t);
+    let records = Records { tally };
+    let plan = records.plan();
     let bounds = network::planning::plan(plan)?;
-    ruled(bytes, t, plan, bounds)
-}
-
-// A plan that planning accepts: 32, or the schedule.
-fn ruled(bytes: &[u8], t: Tally, plan: Plan, bounds: Bounds) -> Result<Schedule, Refusal>
-    requires { Judged bytes.now t plan bounds }
-    ensures numbers { says result ≡ answered bytes.now }
-    ensures schedule { found result ≡ schedule_read bytes.now }
-{
-    let schedule = taking::schedule_of(bytes, t, plan, bounds);
-    let faults = schedule.faults;
-    let end = schedule.end;
-    let first = rules::first_outside(bytes, t.records, plan, faults, end);
-    if first < t.records {
+    let schedule = records.schedule(plan, bounds);
+    let terms = Terms {
+        plan,
+        faults: schedule.faults,
+        end: schedule.end,
+    };
+    let first = terms.first_outside(records);
+    if first < tally.count {
         return Err(Refusal::OutsideRules(first));
     }
     Ok(schedule)

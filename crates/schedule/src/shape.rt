@@ -1,169 +1,146 @@
 // Which bytes are a schedule (refusal 31): records one after the other, their tags in order, and each as its tag asks.
-ghost use Rattle.std.specs.Prelude.{◌≡◌, cond, ◌+◌, ◌-◌, ◌≤◌, length};
+ghost use Rattle.std.specs.Prelude.{◌≡◌, ◌+◌, ◌≤◌, length};
 ghost use Rattle.lists.specs.Searches.{each};
 ghost use Rattle.fields.specs.Fields.{stated_at};
 ghost use Rattle.schedule.specs.Shape as spec;
-ghost use Rattle.schedule.specs.Inside.{Counted, Next};
 
-// How many records the bytes have, how many of them are links and starts, and where the last one ends.
+use crate::record::{END, FATE, FAULTS, LINK, OFFSETS, PLAN, Record, START};
+
+// The records of bytes that are not too long: how many there are, how many of them are links and starts, and where the last one ends.
 #[derive(Clone, Copy)]
-pub(crate) struct Tally {
-    pub records: usize,
+pub(crate) struct Tally<'a> {
+    pub bytes: &'a [u8],
+    pub count: usize,
     pub links: usize,
     pub starts: usize,
     pub end: usize,
+    ghost short: { length bytes.now ≤ 8192 },
+    ghost few: { count ≤ 8192 },
+    ghost few_links: { links ≤ count },
+    ghost few_starts: { starts ≤ count },
+    ghost count_is: { count ≡ spec.records bytes.now },
+    ghost links_are: { links ≡ spec.links bytes.now },
+    ghost starts_are: { starts ≡ spec.starts bytes.now },
+    ghost end_is: { end ≡ spec.place bytes.now count },
 }
 
-pub(crate) fn tally_of(bytes: &[u8]) -> Tally
-    requires { length bytes.now ≤ 8192 }
-    ensures { Counted bytes.now result }
-{
-    let mut t = Tally {
-        records: 0,
-        links: 0,
-        starts: 0,
-        end: 0,
-    };
-    while t.end < bytes.len() {
-        t = with_record(bytes, t);
+impl<'a> Tally<'a> {
+    pub(crate) fn of(bytes: &'a [u8]) -> Self
+        requires { length bytes.now ≤ 8192 }
+        ensures { result.bytes.now ≡ bytes.now }
+    {
+        let mut count = 0;
+        let mut links = 0;
+        let mut starts = 0;
+        let mut end = 0;
+        while end < bytes.len() {
+            let here = Record { bytes, at: end };
+            let tag = here.tag();
+            count += 1;
+            links += usize::from(tag == LINK);
+            starts += usize::from(tag == START);
+            end = here.end();
+        }
+        Tally {
+            bytes,
+            count,
+            links,
+            starts,
+            end,
+        }
     }
-    t
-}
 
-// One record more.
-fn with_record(bytes: &[u8], t: Tally) -> Tally
-    requires { (t.end ≤ 8192) × ((t.records ≤ 8192) × ((t.links ≤ 8192) × (t.starts ≤ 8192))) }
-    ensures { Next bytes.now t result }
-{
-    let tag = fields::byte_at(bytes, t.end);
-    Tally {
-        records: t.records + 1,
-        links: t.links + one_if(tag == 17),
-        starts: t.starts + one_if(tag == 21),
-        end: next(bytes, t.end),
+    pub(crate) fn is_schedule(self) -> bool
+        ensures { result ≡ spec.is_schedule self.entry.bytes.now }
+    {
+        (self.end == self.bytes.len())
+            & (self.links <= 12)
+            & (self.starts <= 16)
+            & (self.links + self.starts + 4 <= self.count)
+            & self.all_right()
     }
-}
 
-fn one_if(test: bool) -> usize
-    ensures { result ≡ cond test 1 0 }
-{
-    if test { 1 } else { 0 }
-}
+    fn all_right(self) -> bool
+        ensures { result ≡ each (spec.records self.entry.bytes.now) (spec.right self.entry.bytes.now) }
+    {
+        let bytes = self.bytes;
+        let mut at = 0;
+        for k in 0..self.count {
+            let here = Record { bytes, at };
+            if !self.is_right(k, here) {
+                return false;
+            }
+            at = here.end();
+        }
+        true
+    }
 
-// Where the record after the one at a place begins.
-pub(crate) fn next(bytes: &[u8], at: usize) -> usize
-    requires { at ≤ 8192 }
-    ensures { result ≡ at + 3 + stated_at bytes.now at }
-{
-    at + 3 + fields::value_at(bytes, at + 1, 2) as usize
-}
+    // Whether record k has the tag of its turn and is as that tag asks.
+    fn is_right(self, k: usize, here: Record) -> bool
+        ensures { result ≡ spec.right_at here.entry.bytes.now self.entry.links self.entry.starts k here.entry.at }
+    {
+        (here.tag() == self.tag_of(k)) & self.fits(here)
+    }
 
-// Whether the bytes, no longer than a schedule may be, are one.
-pub(crate) fn is_schedule(bytes: &[u8], t: Tally) -> bool
-    requires { Counted bytes.now t }
-    ensures { result ≡ spec.is_schedule bytes.now }
-{
-    (t.end == bytes.len())
-        & (t.links <= 12)
-        & (t.starts <= 16)
-        & (t.links + t.starts + 4 <= t.records)
-        & all_right(bytes, t)
-}
+    // The tag of record k among so many links and starts.
+    fn tag_of(self, k: usize) -> u8
+        ensures { result ≡ spec.tag_among self.entry.links self.entry.starts k }
+    {
+        if k == 0 {
+            return PLAN;
+        }
+        if k <= self.links {
+            return LINK;
+        }
+        if k == self.links + 1 {
+            return FAULTS;
+        }
+        if k == self.links + 2 {
+            return OFFSETS;
+        }
+        if k == self.links + 3 {
+            return END;
+        }
+        if k < self.links + self.starts + 4 {
+            return START;
+        }
+        FATE
+    }
 
-fn all_right(bytes: &[u8], t: Tally) -> bool
-    requires { Counted bytes.now t }
-    ensures { result ≡ each (spec.records bytes.now) (spec.right bytes.now) }
-{
-    let mut ok = true;
-    let mut at: usize = 0;
-    let mut k: usize = 0;
-    while k < t.records {
-        ok = is_right(bytes, at, k, t) & ok;
-        at = next(bytes, at);
-        k += 1;
+    fn fits(self, here: Record) -> bool
+        ensures { result ≡ spec.fits_at here.entry.bytes.now self.entry.links self.entry.starts here.entry.at }
+    {
+        let size = here.size();
+        match here.tag() {
+            PLAN => size == 5,
+            LINK => size == 2,
+            FAULTS => size == 3,
+            OFFSETS => size == here.hosts() as u16,
+            END => size == 2,
+            START => start_fits(here),
+            _ => self.fate_fits(here),
+        }
     }
-    ok
-}
 
-// Whether record k, which begins at a place, has the tag of its turn and is as that tag asks.
-fn is_right(bytes: &[u8], at: usize, k: usize, t: Tally) -> bool
-    requires { (at ≤ 8192) × ((t.links ≤ 8192) × (t.starts ≤ 8192)) }
-    ensures { result ≡ spec.right_at bytes.now t.links t.starts k at }
-{
-    let tag = fields::byte_at(bytes, at);
-    (tag == tag_of(t, k)) & fits(bytes, at, t)
-}
-
-// The tag of record k among so many links and starts.
-fn tag_of(t: Tally, k: usize) -> u8
-    requires { (t.links ≤ 8192) × (t.starts ≤ 8192) }
-    ensures { result ≡ spec.tag_among t.links t.starts k }
-{
-    if k == 0 {
-        return 16;
-    }
-    if k <= t.links {
-        return 17;
-    }
-    if k == t.links + 1 {
-        return 18;
-    }
-    if k == t.links + 2 {
-        return 19;
-    }
-    if k == t.links + 3 {
-        return 20;
-    }
-    if k < t.links + t.starts + 4 {
-        return 21;
-    }
-    22
-}
-
-fn fits(bytes: &[u8], at: usize, t: Tally) -> bool
-    requires { at ≤ 8192 }
-    ensures { result ≡ spec.fits_at bytes.now t.links t.starts at }
-{
-    let size = fields::value_at(bytes, at + 1, 2) as usize;
-    let hosts = fields::byte_at(bytes, 3) as usize;
-    let tag = fields::byte_at(bytes, at);
-    match tag {
-        16 => size == 5,
-        17 => size == 2,
-        18 => size == 3,
-        19 => size == hosts,
-        20 => size == 2,
-        21 => start_fits(bytes, at + 3, size),
-        _ => fate_fits(bytes, at + 3, size, t),
+    // A fate's start and link are there, and its direction is 0 or 1.
+    fn fate_fits(self, here: Record) -> bool
+        ensures { result ≡ spec.fate_fits here.entry.bytes.now self.entry.links self.entry.starts (here.entry.at + 3) (stated_at here.entry.bytes.now here.entry.at) }
+    {
+        let start = here.byte(0) as usize;
+        let link = here.byte(1) as usize;
+        let direction = here.byte(2);
+        (here.size() == 4) & (start < self.starts) & (link < self.links) & (direction <= 1)
     }
 }
 
 // A start's host is one of n, and its order is one.
-fn start_fits(bytes: &[u8], at: usize, size: usize) -> bool
-    requires { at ≤ 8195 }
-    ensures { result ≡ spec.start_fits bytes.now at size }
+fn start_fits(here: Record) -> bool
+    ensures { result ≡ spec.start_fits here.entry.bytes.now (here.entry.at + 3) (stated_at here.entry.bytes.now here.entry.at) }
 {
-    let kind = fields::byte_at(bytes, at + 3);
-    let share = fields::byte_at(bytes, at + 8);
-    (fields::byte_at(bytes, at + 2) < fields::byte_at(bytes, 3))
-        & !orders::wrong_size(kind, past_host(size))
+    let kind = here.byte(3);
+    let share = here.byte(8);
+    let order = here.size().saturating_sub(3); // what is left of it past the host
+    (here.byte(2) < here.hosts())
+        & !orders::wrong_size(kind, order as usize)
         & !orders::wrong_value(kind, share)
-}
-
-// What is left of a start's length for its order.
-fn past_host(size: usize) -> usize
-    ensures { result ≡ size - 3 }
-{
-    if size < 3 { 0 } else { size - 3 }
-}
-
-// A fate's start and link are there, and its direction is 0 or 1.
-fn fate_fits(bytes: &[u8], at: usize, size: usize, t: Tally) -> bool
-    requires { at ≤ 8195 }
-    ensures { result ≡ spec.fate_fits bytes.now t.links t.starts at size }
-{
-    let start = fields::byte_at(bytes, at) as usize;
-    let link = fields::byte_at(bytes, at + 1) as usize;
-    let direction = fields::byte_at(bytes, at + 2);
-    (size == 4) & (start < t.starts) & (link < t.links) & (direction <= 1)
 }

@@ -1,53 +1,56 @@
 // The starts of a schedule.
-ghost use Rattle.std.specs.Prelude.{◌≡◌, ◌≤◌};
+ghost use Rattle.std.specs.Prelude.{◌≡◌, ◌+◌, ◌≤◌};
+ghost use Rattle.lists.specs.Bytes.{val_at};
 ghost use Rattle.orders.specs.Orders.{order_at};
-ghost use Rattle.schedule.specs.Schedule.{start_at, starts_of};
-ghost use Rattle.schedule.specs.Inside.{Run};
+ghost use Rattle.schedule.specs.Schedule.{start_at, starts_of, first_start};
 
 use crate::Start;
-use crate::shape::next;
-use crate::taking::{place_of, tick_at};
+use crate::record::Record;
+use crate::taking::Records;
 use clock::Tick;
 use orders::Order;
 
-pub(crate) const NO_START: Start = Start {
+const NO_START: Start = Start {
     tick: Tick(0),
     host: 0,
     order: Order::Publish { image: 0, share: 0 },
 };
 
-// The starts from record `first` on.
-pub(crate) fn starts_of(bytes: &[u8], first: usize, count: usize) -> [Start; 16]
-    requires { (count ≤ 16) × Run bytes.now first count }
-    ensures { result ≡ starts_of bytes.now first count }
-{
-    let mut starts = [NO_START; 16];
-    let mut at = place_of(bytes, first);
-    let mut i: usize = 0;
-    while i < count {
-        starts[i] = start_at(bytes, at + 3);
-        at = next(bytes, at);
-        i += 1;
+impl<'a> Records<'a> {
+    pub(crate) fn starts(self) -> [Start; 16]
+        ensures { let bs = self.entry.tally.bytes.now in result ≡ starts_of bs (first_start bs) self.entry.tally.starts }
+    {
+        let bytes = self.tally.bytes;
+        let mut starts = [NO_START; 16];
+        let mut at = self.record(self.tally.links + 3).end();
+        for i in 0..self.tally.starts {
+            let here = Record { bytes, at };
+            starts[i] = start_of(here);
+            at = here.end();
+        }
+        starts
     }
-    starts
 }
 
-fn start_at(bytes: &[u8], at: usize) -> Start
-    requires { at ≤ 8195 }
-    ensures { result ≡ start_at bytes.now at }
+fn start_of(here: Record) -> Start
+    ensures { result ≡ start_at here.entry.bytes.now (here.entry.at + 3) }
 {
     Start {
-        tick: tick_at(bytes, at),
-        host: fields::byte_at(bytes, at + 2),
-        order: order_at(bytes, at + 3),
+        tick: here.tick(),
+        host: here.byte(2),
+        order: order_of(here),
     }
 }
 
-fn order_at(bytes: &[u8], at: usize) -> Order
-    requires { at ≤ 8198 }
-    ensures { result ≡ order_at bytes.now at }
+fn order_of(here: Record) -> Order
+    ensures { result ≡ order_at here.entry.bytes.now (here.entry.at + 3 + 3) }
 {
-    let image = fields::value_at(bytes, at + 1, 4) as u32;
-    let share = fields::byte_at(bytes, at + 5);
-    orders::order_of(fields::byte_at(bytes, at), image, share)
+    let image = image_at(here.bytes, here.at + 7);
+    orders::order_of(here.byte(3), image, here.byte(8))
+}
+
+fn image_at(bytes: &[u8], at: usize) -> u32
+    ensures { result ≡ val_at bytes.now at 4 }
+{
+    fields::value_at(bytes, at, 4) as u32
 }

@@ -1,63 +1,47 @@
 // The table of the board: each order on image 7, where it is absent, offered 30, halted 30 and halted 0.
-use crate::text;
-use board::{Answer, Board, Place, Stand};
+use board::{Board, Place, Stand};
 use orders::Order;
 use std::io;
 
 pub(crate) fn table(rt: &impl Print) -> io::Result<()> {
-    text::word(rt, "board: absent | offered 30 | halted 30 | halted 0\n")?;
-    text::word(rt, "publish 45: ")?;
+    println!(rt; "board: absent | offered 30 | halted 30 | halted 0")?;
     row(
         rt,
+        "publish 45",
         Order::Publish {
             image: 7,
             share: 45,
         },
     )?;
-    text::word(rt, "halt: ")?;
-    row(rt, Order::Halt(7))?;
-    text::word(rt, "resume: ")?;
-    row(rt, Order::Resume(7))?;
-    text::word(rt, "withdraw: ")?;
-    row(rt, Order::Withdraw(7))
+    row(rt, "halt", Order::Halt(7))?;
+    row(rt, "resume", Order::Resume(7))?;
+    row(rt, "withdraw", Order::Withdraw(7))
 }
 
-fn row(rt: &impl Print, order: Order) -> io::Result<()> {
+fn row(rt: &impl Print, name: &str, order: Order) -> io::Result<()> {
+    print!(rt; "{name}: ")?;
     cell(rt, empty(), order)?;
-    text::word(rt, " | ")?;
-    cell(rt, only(Stand::Offered(30)), order)?;
-    text::word(rt, " | ")?;
-    cell(rt, only(Stand::Halted(30)), order)?;
-    text::word(rt, " | ")?;
-    cell(rt, only(Stand::Halted(0)), order)?;
-    text::word(rt, "\n")
+    for stand in [Stand::Offered(30), Stand::Halted(30), Stand::Halted(0)] {
+        print!(rt; " | ")?;
+        cell(rt, only(stand), order)?;
+    }
+    println!(rt)
 }
 
 // How image 7 stands after the order.
 fn cell(rt: &impl Print, before: Board, order: Order) -> io::Result<()> {
     let applied = board::after_order(before, order);
-    let after = applied.board;
-    let answer = applied.answer;
-    match answer {
-        Answer::Done => standing(rt, after),
-        Answer::Unsound => text::refusal(rt, 9),
-        Answer::OutOfRange => text::refusal(rt, 23),
+    match applied.answer {
+        Ok(()) => standing(rt, applied.board.places[0].stand),
+        Err(refusal) => print!(rt; "refusal {}", u8::from(refusal)),
     }
 }
 
-fn standing(rt: &impl Print, board: Board) -> io::Result<()> {
-    let first = board.places[0];
-    let stand = first.stand;
+fn standing(rt: &impl Print, stand: Stand) -> io::Result<()> {
     match stand {
-        Stand::Absent => text::word(rt, "absent"),
-        Stand::Offered(share) => {
-            text::word(rt, "offered ")?;
-            text::number(rt, share as u64)
-        }
-        Stand::Halted(share) => {
-            text::word(rt, "halted ")?;
-            text::number(rt, share as u64)
-        }
+        Stand::Absent => print!(rt; "absent"),
+        Stand::Offered(share) => print!(rt; "offered {share}"),
+        Stand::Halted(share) => print!(rt; "halted {share}"),
     }
 }
 

@@ -4,7 +4,6 @@
 mod boards;
 mod copies;
 mod plans;
-mod text;
 
 use std::io;
 

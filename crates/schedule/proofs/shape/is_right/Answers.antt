@@ -1,7 +1,0 @@
--- By what the two ensure. Assumes nothing.
-use Rattle.schedule.specs.Shape.{right_at}
-use Rattle.schedule.proofs.shape.is_right.Goals as goal
-
-pub returns : goal.returns
-unfolding right_at
-returns c = simp (c.byte_at-tag.ensures, c.tag_of.ensures, c.fits.ensures)
