@@ -24,7 +24,7 @@ use Rattle.host.specs.Answers.{SaidTick, number, says_tick, said_by_tick}
 use Rattle.host.specs.Tick.{due, due_of, tick_refusal, tick_says, tick_host}
 use Rattle.host.specs.declared.Held.{Held}
 use Rattle.host.specs.declared.Host.{Host}
-use Rattle.host.specs.declared.TickAnswer.TheVariants.{Delivered, Refused}
+use Rattle.std.specs.Prelude.{Ok, Err}
 use Rattle.host.specs.declared.Refusal.{Refusal}
 use Rattle.host.proofs.Facts.{SoundIs, tick_is}
 use Rattle.host.proofs.Keeps.{held_most}
@@ -140,7 +140,7 @@ module _ (p : Station) (u : Reading) (room : Room p u) where
   refusal = tick_refusal p.host u.0 512
 
   -- nothing is delivered where the tick is refused
-  pub station_refused : (w : Refusal) (h : Host) → says_tick (Refused w) ≡ tick_says p.host u.0 512 → h ≡ tick_host p.host u 512
+  pub station_refused : (w : Refusal) (h : Host) → says_tick (Err w) ≡ tick_says p.host u.0 512 → h ≡ tick_host p.host u 512
       → record { host = h; log = p.log } ≡ ticked u p
   station_refused w h e k =
       let number_is : number w ≡ refusal = ap (λ (s : SaidTick). s.refusal) e ∙ said_refusal refusal (length (due_of p.host u.0)) in
@@ -149,7 +149,7 @@ module _ (p : Station) (u : Reading) (room : Room p u) where
       room.log ∙ ap log_of (sym (append-nil (list_of p.log)) ∙ ap (λ (l : List Held). list_of p.log ++ map (delivery u) l) none) in
       cc (k, log)
 
-  module _ (count : ℕ) (e : says_tick (Delivered count) ≡ tick_says p.host u.0 512) where
+  module _ (count : ℕ) (e : says_tick (Ok count) ≡ tick_says p.host u.0 512) where
     clear : refusal ≡ 0
     clear = sym (said_refusal refusal (length (due_of p.host u.0))) ∙ ap (λ (s : SaidTick). s.refusal) (sym e)
 

@@ -4,7 +4,7 @@ use mathlib.Core.Bool.{Bool, true, false, cond}
 use mathlib.Core.List.{List, []}
 use Prim.Native.Nat.{ℕ, zero, suc, ◌+◌, ◌<◌}
 use native.Mathlib.Omega.{arith}
-use borrow.Author.Tests.{eqb-true, ltb-true, ltb-false}
+use borrow.Author.Tests.{eq-eqb, eqb-true, ltb-true, ltb-false}
 use lib.Dec.{ltb, eqb}
 use lib.ListN.{get_or, replicate, get_or-replicate}
 use Rattle.lists.proofs.Listing.{get_or_listed}
@@ -12,9 +12,11 @@ use Rattle.network.specs.Network.{n, m, link}
 use Rattle.network.proofs.Ranges.{ends}
 use Rattle.network.proofs.Answers.{fine}
 use Rattle.schedule.specs.declared.Schedule.{Schedule}
-use Rattle.schedule.specs.declared.Answer.{Answer}
+use Rattle.network.specs.declared.PlanRefusal.TheVariants.{OutOfRange, BadLink, Parted}
+use Rattle.schedule.specs.declared.Refusal.{Refusal}
+use Rattle.schedule.specs.declared.Refusal.TheVariants.{NotASchedule, Plan, OutsideRules}
 use Rattle.schedule.specs.Schedule.{schedule_of}
-use Rattle.schedule.specs.Calls.{read_refusal, says, answered, schedule_read, nothing}
+use Rattle.schedule.specs.Calls.{read_refusal, numbers, answered, schedule_read, nothing}
 use Rattle.schedule.proofs.Laws.{Within, within_of, within, plan_ranges, any_ends, any_host, any_tick}
 use Rattle.engine.specs.declared.Log.{Log}
 use Rattle.engine.specs.declared.Outcome.{Outcome}
@@ -56,14 +58,24 @@ get_or_blank zero i z = refl
 get_or_blank (suc n) zero z = refl
 get_or_blank (suc n) (suc i) z = get_or_blank n i z
 
--- what reading says of the answer is what it says of the bytes
-refusal_is : (bs : List ℕ) (a : Answer) (b : Bool) → says a ≡ answered bs → b ≡ eqb (says a).0 0 → eqb (read_refusal bs) 0 ≡ b
-refusal_is bs a b e h = sym (h ∙ ap (λ (x : ℕ × ℕ). eqb x.0 0) e)
+-- ---- what reading answers
 
-pub read_playable : (bs : List ℕ) (a : Answer) (s : Schedule) → says a ≡ answered bs → s ≡ schedule_read bs → true ≡ eqb (says a).0 0 → Playable s
-read_playable bs a s e es h =
-    let clear : read_refusal bs ≡ 0 = eqb-true (read_refusal bs) 0 (refusal_is bs a true e h) in
-    rw es (playable (schedule_read bs) (within bs clear))
+pub some_number : (r : Refusal) → eqb (numbers r).0 0 ≡ false
+some_number NotASchedule = refl
+some_number (Plan OutOfRange) = refl
+some_number (Plan BadLink) = refl
+some_number (Plan Parted) = refl
+some_number (OutsideRules k) = refl
+
+module _ (bs : List ℕ) where
+  pub clear : (0, 0) ≡ answered bs → read_refusal bs ≡ 0
+  clear e = sym (ap (λ (x : ℕ × ℕ). x.0) e)
+
+  pub refused : (r : Refusal) → numbers r ≡ answered bs → eqb (read_refusal bs) 0 ≡ false
+  refused r e = sym (ap (λ (x : ℕ × ℕ). eqb x.0 0) e) ∙ some_number r
+
+  pub read_playable : (s : Schedule) → (0, 0) ≡ answered bs → s ≡ schedule_read bs → Playable s
+  read_playable s e es = rw es (playable (schedule_read bs) (within bs (clear e)))
 
 -- ---- in its places
 
@@ -77,18 +89,15 @@ in_places s z = record { hosts = z.n_most; starts = z.few; logs = λ p h. rw (ge
 none_in_places : InPlaces no_outcome
 none_in_places = record { hosts = omega arith; starts = omega arith; logs = λ p h. rw (get_or-replicate 8 p (log_of []) no_log h) (omega arith) }
 
-pub ran : (bs : List ℕ) (a : Answer) (s : Schedule) (o : Outcome) → says a ≡ answered bs → s ≡ schedule_read bs → true ≡ eqb (says a).0 0 → o ≡ outcome s
-    → (o ≡ outcome_of bs) × InPlaces o
-ran bs a s o e es h eo =
-    let accepted : eqb (read_refusal bs) 0 ≡ true = refusal_is bs a true e h in
+pub ran : (bs : List ℕ) (s : Schedule) (o : Outcome) → (0, 0) ≡ answered bs → s ≡ schedule_read bs → o ≡ outcome s → (o ≡ outcome_of bs) × InPlaces o
+ran bs s o e es eo =
+    let accepted : eqb (read_refusal bs) 0 ≡ true = eq-eqb _ _ (clear bs e) in
     let same : schedule_read bs ≡ schedule_of bs = ap (λ (b : Bool). cond b (schedule_of bs) nothing) accepted in
     let all : outcome (schedule_of bs) ≡ outcome_of bs = sym (ap (λ (b : Bool). cond b (outcome (schedule_of bs)) no_outcome) accepted) in
-    (eo ∙ ap outcome (es ∙ same) ∙ all, rw eo (in_places s (read_playable bs a s e es h)))
+    (eo ∙ ap outcome (es ∙ same) ∙ all, rw eo (in_places s (read_playable bs s e es)))
 
-pub not_run : (bs : List ℕ) (a : Answer) (o : Outcome) → says a ≡ answered bs → false ≡ eqb (says a).0 0 → o ≡ no_outcome → (o ≡ outcome_of bs) × InPlaces o
-not_run bs a o e h eo =
-    let refused : eqb (read_refusal bs) 0 ≡ false = refusal_is bs a false e h in
-    (eo ∙ sym (ap (λ (b : Bool). cond b (outcome (schedule_of bs)) no_outcome) refused), rw eo none_in_places)
+pub not_run : (bs : List ℕ) (r : Refusal) → numbers r ≡ answered bs → (no_outcome ≡ outcome_of bs) × InPlaces no_outcome
+not_run bs r e = (sym (ap (λ (b : Bool). cond b (outcome (schedule_of bs)) no_outcome) (refused bs r e)), none_in_places)
 
 -- every outcome stays in its places
 pub outcome_in_places : (bs : List ℕ) → InPlaces (outcome_of bs)

@@ -3,12 +3,10 @@ use Rattle.std.specs.Prelude.{◌≡◌, List, [], ℕ, ◌+◌, ◌≤◌, ◌<
 use Rattle.network.specs.Network.{n, m, link, plan_refusal}
 use Rattle.clock.specs.declared.Reading.{Reading}
 use Rattle.clock.specs.declared.Tick.{Tick}
-use Rattle.host.specs.Answers.{Said}
 use Rattle.host.specs.State.{with, Sized}
 use Rattle.host.specs.Tick.{due_of, tick_refusal}
 use Rattle.host.specs.declared.Host.{Host}
 use Rattle.schedule.specs.declared.Schedule.{Schedule}
-use Rattle.engine.specs.declared.Acted.{Acted}
 use Rattle.engine.specs.declared.Outcome.{Outcome}
 use Rattle.engine.specs.declared.Post.{Post}
 use Rattle.engine.specs.declared.Station.{Station}
@@ -42,9 +40,9 @@ post_of arrivals copies = record { arrivals = arrivals; copies = copies }
 abbrev pub world_of : List Station → Post → List ℕ → World
 world_of stations post refusals = record { stations = stations; post = post; refusals = refusals }
 
--- a station after a call of its host, and what the call said
-abbrev pub acted : Station → Host → Said → Acted
-acted a h said = record { station = record { host = h; log = a.log }; links = said.links; refusal = said.refusal }
+-- a station after a call of its host
+abbrev pub with_host : Station → Host → Station
+with_host a h = record { host = h; log = a.log }
 
 -- a station whose host is another's, under a number of its own
 abbrev pub fresh_station : Host → ℕ → Station

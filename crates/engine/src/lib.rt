@@ -10,13 +10,13 @@ mod starting;
 mod ticking;
 
 ghost use Rattle.std.specs.Prelude.{◌≡◌};
-ghost use Rattle.schedule.specs.Calls.{says, answered};
-ghost use Rattle.engine.specs.Calls.{outcome_of};
+ghost use Rattle.schedule.specs.Calls.{answered};
+ghost use Rattle.engine.specs.Calls.{says, outcome_in, outcome_of};
 ghost use Rattle.engine.specs.Inside.{InPlaces};
 
 use clock::{Reading, Tick};
 use host::{Held, Host};
-use schedule::Answer;
+use schedule::Refusal;
 
 // An order delivered, and the reading that the host's clock showed.
 #[derive(Clone, Copy)]
@@ -46,14 +46,6 @@ pub struct Post {
     pub copies: usize,
 }
 
-// A station after a call of its host, the links to send on, and the number of a refusal, or 0.
-#[derive(Clone, Copy)]
-pub(crate) struct Acted {
-    pub station: Station,
-    pub links: u16,
-    pub refusal: u8,
-}
-
 // All that changes in a run. The definitions speak of it; the run keeps its parts.
 #[derive(Clone, Copy)]
 pub struct World {
@@ -73,23 +65,12 @@ pub struct Outcome {
     pub copies: usize,
 }
 
-#[derive(Clone, Copy)]
-pub struct Ran {
-    pub answer: Answer,
-    pub outcome: Outcome,
-}
-
-// The run of the schedule that the bytes are; or why they are none, and zero elsewhere.
-pub fn run(bytes: &[u8]) -> Ran
-    ensures { (says result.answer ≡ answered bytes.now) × (result.outcome ≡ outcome_of bytes.now) × InPlaces result.outcome }
+// The run of the schedule that the bytes are; or why they are none.
+pub fn run(bytes: &[u8]) -> Result<Outcome, Refusal>
+    ensures numbers { says result ≡ answered bytes.now }
+    ensures outcome { outcome_in result ≡ outcome_of bytes.now }
+    ensures in_places { InPlaces (outcome_in result) }
 {
-    let found = schedule::read(bytes);
-    let answer = found.answer;
-    let schedule = found.schedule;
-    if schedule::number_of(answer) != 0 {
-        let outcome = opening::no_outcome();
-        return Ran { answer, outcome };
-    }
-    let outcome = playing::play_all(schedule);
-    Ran { answer, outcome }
+    let schedule = schedule::read(bytes)?;
+    Ok(playing::play_all(&schedule))
 }

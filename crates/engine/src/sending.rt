@@ -1,48 +1,54 @@
 // Copies sent: each with the tick at which it arrives, unless it is lost.
 ghost use Rattle.std.specs.Prelude.{◌≡◌, cond, ◌+◌, ◌≤◌, ◌<◌, eqb};
+ghost use Rattle.host.specs.Answers.{says};
 ghost use Rattle.network.specs.Network.{m};
 ghost use Rattle.engine.specs.Parts.{later, copy_from};
 ghost use Rattle.engine.specs.Run.{send};
-ghost use Rattle.engine.specs.Inside.{post_of};
 
 use crate::Post;
 use clock::Tick;
+use host::{Refusal, Sent};
 use network::{Link, Plan, is_in};
 use schedule::Schedule;
 
-// The copies of start k that host p sends on a set of links at a tick.
+// The copies of start k that host p sends at a tick, on the links that its host answered.
 pub(crate) fn send_all(
-    s: Schedule,
+    s: &Schedule,
     t: Tick,
     k: usize,
     p: u8,
-    links: u16,
-    before: [Tick; 384],
-    sent: usize,
-) -> Post
-    requires { (m s.plan ≤ 12) × (t.0 ≤ 65_535) × (k < 16) × (sent ≤ 1_000_000_000) }
-    ensures { result ≡ send s t k p links (post_of before sent) }
+    answer: Result<Sent, Refusal>,
+    post: &mut Post,
+)
+    requires { (m s.now.plan ≤ 12) × (t.0 ≤ 65_535) × (k < 16) × (post.old.copies ≤ 1_000_000_000) }
+    ensures { post.new ≡ send s.now t k p (says answer).links post.old }
 {
-    let plan = s.plan;
-    let delays = s.delays;
-    let mut arrivals = before;
-    let mut copies = sent;
+    let links = links_of(answer);
     for l in 0..s.plan.link_count {
         if is_in(links as u32, l) {
-            let c = place(plan, k, p, l);
-            let delay = delays[c];
-            copies += 1;
+            let c = place(&s.plan, k, p, l);
+            let delay = s.delays[c];
+            post.copies += 1;
             if delay != 0 {
-                arrivals[c] = later(t, delay);
+                post.arrivals[c] = later(t, delay);
             }
         }
     }
-    Post { arrivals, copies }
 }
 
-fn place(plan: Plan, k: usize, p: u8, l: u8) -> usize
+// None, where it is a refusal.
+fn links_of(answer: Result<Sent, Refusal>) -> u16
+    ensures { result ≡ (says answer).links }
+{
+    match answer {
+        Ok(sent) => sent.links,
+        Err(_) => 0,
+    }
+}
+
+fn place(plan: &Plan, k: usize, p: u8, l: u8) -> usize
     requires { (k < 16) × (l < 12) }
-    ensures { (result ≡ copy_from plan k p l) × (result < 384) }
+    ensures { (result ≡ copy_from plan.now k p l) × (result < 384) }
 {
     let at = l as usize;
     let ends = plan.links[at];

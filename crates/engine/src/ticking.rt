@@ -8,45 +8,32 @@ ghost use Rattle.engine.specs.Inside.{Room, later_at};
 
 use crate::{Delivery, Log, Station};
 use clock::{Reading, reached};
-use host::{Held, TickAnswer};
+use host::Held;
 
 // The station at a later reading, all else as it was.
-pub(crate) fn at_later(station: Station, u: Reading) -> Station
-    ensures { result ≡ later_at u station }
+pub(crate) fn be_at(station: &mut Station, u: Reading)
+    ensures { station.new ≡ later_at u station.old }
 {
-    let mut host = station.host;
-    let log = station.log;
-    host.last = u;
-    Station { host, log }
+    station.host.last = u;
 }
 
 // Whether nothing is due, in a history that rises by stamp.
-pub(crate) fn is_idle(station: Station, u: Reading) -> bool
-    ensures { result ≡ (eqb station.host.held 0 || not (due station.host.bound u.0 (get_or station.host.history 0 no_held))) }
+pub(crate) fn is_idle(station: &Station, u: Reading) -> bool
+    ensures { result ≡ (eqb station.now.host.held 0 || not (due station.now.host.bound u.0 (get_or station.now.host.history 0 no_held))) }
 {
-    let host = station.host;
-    let history = host.history;
-    let first = history[0];
+    let host = &station.host;
+    let first = host.history[0];
     (host.held == 0) | !reached(first.stamp, host.bound, u)
 }
 
-pub(crate) fn tick_one(station: Station, u: Reading) -> Station
-    requires { Room station u }
-    ensures { result ≡ ticked u station }
+pub(crate) fn tick_one(station: &mut Station, u: Reading)
+    requires { Room station.old u }
+    ensures { station.new ≡ ticked u station.old }
 {
     let mut out = [0u8; 512];
-    let before = station.host;
-    let log = station.log;
-    let history = before.history;
-    let after = host::after_tick(before, u, &mut out);
-    let host = after.host;
-    let answer = after.answer;
-    match answer {
-        TickAnswer::Refused(_) => Station { host, log },
-        TickAnswer::Delivered(count) => Station {
-            host,
-            log: more(log, history, count, u),
-        },
+    let history = station.host.history;
+    if let Ok(count) = host::tick(&mut station.host, u, &mut out) {
+        station.log = more(station.log, history, count, u);
     }
 }
 

@@ -6,13 +6,13 @@ use Prim.Native.Nat.{ℕ, ◌≤◌}
 use native.Mathlib.Omega.{arith}
 use lib.Dec.{eqb}
 use lib.ListN.{length, length-append}
+use Rattle.std.specs.Prelude.{Result, Ok}
 use Rattle.engine.specs.Calls.{outcome_of}
 use Rattle.engine.proofs.Runs.{outcome_in_places}
 use Rattle.engine.specs.Inside.{InPlaces}
 use Rattle.engine.specs.declared.Outcome.{Outcome}
 use Rattle.schedule.specs.Calls.{answered}
-use Rattle.report.specs.declared.Told.{Told}
-use Rattle.report.specs.declared.Told.TheVariants.{Written}
+use Rattle.report.specs.declared.ShortBuffer.{ShortBuffer}
 use Rattle.report.specs.Text.{word, item, line, starts_text, hosts_text, outcome_text, refused_text, text}
 use Rattle.report.specs.Calls.{reported, says, too_short, told, enough}
 use Rattle.report.proofs.One.{one_told}
@@ -54,17 +54,17 @@ text_size a o p = go (eqb a.0 0)
     go true = room_enough o p
     go false = omega (arith, refused_size a)
 
-pub never_short : (bs out : List ℕ) → enough ≤ length out → (r : Told) → says r ≡ told (reported bs) out
-    → r ≡ Written (length (reported bs))
+pub never_short : (bs out : List ℕ) → enough ≤ length out → (r : Result ℕ ShortBuffer) → says r ≡ told (reported bs) out
+    → r ≡ Ok (length (reported bs))
 never_short bs out room r e =
     let l = text_size (answered bs) (outcome_of bs) (outcome_in_places bs) in
-    one_told r (Written (length (reported bs))) e (sym (rw (has_room (reported bs) out (omega arith))))
+    one_told r (Ok (length (reported bs))) e (sym (rw (has_room (reported bs) out (omega arith))))
 
 -- what was written lies within the buffer
-pub written_fits : (t out : List ℕ) (n : ℕ) → says (Written n) ≡ told t out → n ≤ length out
+pub written_fits : (t out : List ℕ) (n : ℕ) → says (Ok n) ≡ told t out → n ≤ length out
 written_fits t out n e = go (too_short t out) refl e
   where
-    go : (b : Bool) → too_short t out ≡ b → says (Written n) ≡ cond b (22, 0) (0, length t) → n ≤ length out
+    go : (b : Bool) → too_short t out ≡ b → says (Ok n) ≡ cond b (22, 0) (0, length t) → n ≤ length out
     go true f e = let z : ◌≡◌ {A = ℕ} 0 22 = ap (λ (q : ℕ × ℕ). q.0) e in absurd (omega arith)
     go false f e =
         let m : n ≡ length t = ap (λ (q : ℕ × ℕ). q.1) e in

@@ -1,49 +1,72 @@
 -- A writer after another is one writer. Assumes nothing.
 use mathlib.Core.Path.{◌≡◌, refl, sym, ap, ◌∙◌}
+use mathlib.Core.Bool.{Bool, true, false}
 use mathlib.Core.List.{List, [], ◌∷◌, ◌++◌, append_assoc, append-nil}
-use Prim.Native.Nat.{ℕ, zero, suc, ◌+◌, ◌-◌, ◌/◌, ◌%◌, ◌≤◌, ◌<◌}
-use native.Mathlib.Nat.{add-zero}
-use native.Mathlib.Numerals.{add-one, sub-one}
+use Prim.Native.Nat.{ℕ, suc, ◌+◌, ◌/◌, ◌%◌, ◌^◌, ◌≤◌, ◌<◌, min}
+use native.Mathlib.Numerals.{add-one}
 use native.Mathlib.Omega.{arith}
-use borrow.Author.Tests.{lt-ltb, le-ltb}
+use borrow.Author.Tests.{ltb-true, ltb-false, lt-ltb, le-ltb}
+use lib.Dec.{ltb}
 use lib.ListN.{length, get_or, take, length-append}
-use lib.Seq.{length-sets, take-suc}
+use lib.Seq.{sets, length-sets, take-suc}
+use Rattle.std.proofs.lemmas.List.{set_past}
 use Rattle.lists.specs.Lists.{flat, listed}
+use Rattle.std.specs.Fmt as std-fmt
+use Rattle.std.proofs.lemmas.Fmt.{AppendsLastDigit, decimal_from_appends, length-decimal-le, decimal_digit, decimal_step}
 use Rattle.fields.proofs.Placing.{sets_then}
-use Rattle.report.specs.Text.{digits}
-use Rattle.report.specs.Inside.{Wrote}
+use Rattle.report.specs.declared.writers.Writer.{Writer}
+use Rattle.report.specs.Text.{digits, decimal}
+use Rattle.report.specs.Inside.{last, Counts, Wrote}
 
-pub wrote_none : (out : List ℕ) (at : ℕ) → Wrote out at [] out at
-wrote_none out at = record { end = sym (add-zero at); put = refl }
+-- past the end nothing is written
+sets_past : (l : List ℕ) (at : ℕ) (bs : List ℕ) → length l ≤ at → sets l at bs ≡ l
+sets_past l at [] h = refl
+sets_past l at (b ∷ bs) h = ap (λ (t : List ℕ). sets t (suc at) bs) (set_past l at b h) ∙ sets_past l (suc at) bs (omega arith)
 
-module _ {out mid exit : List ℕ} {at a r : ℕ} {xs ys : List ℕ} where
-  pub wrote_then : Wrote out at xs mid a → Wrote mid a ys exit r → Wrote out at (xs ++ ys) exit r
-  wrote_then v w =
+-- so it does not matter that the count stops
+sets_counted : (l : List ℕ) (at : ℕ) (bs : List ℕ) → length l ≤ last → sets l (min at last) bs ≡ sets l at bs
+sets_counted l at bs h = go (ltb at last) refl
+  where
+    go : (t : Bool) → ltb at last ≡ t → sets l (min at last) bs ≡ sets l at bs
+    go true e = let k : at < last = ltb-true at last e in let same : min at last ≡ at = omega arith in ap (λ (i : ℕ). sets l i bs) same
+    go false e =
+        let k : last ≤ at = ltb-false at last e in
+        let same : min at last ≡ last = omega arith in
+        ap (λ (i : ℕ). sets l i bs) same ∙ sets_past l last bs h ∙ sym (sets_past l at bs (omega arith))
+
+pub wrote_none : (w : Writer) → Wrote w [] w
+wrote_none w = record { same = refl; put = λ h. refl; end = λ h. let k = h.place in omega arith }
+
+module _ {w m v : Writer} {xs ys : List ℕ} where
+  pub wrote_then : Wrote w xs m → Wrote m ys v → Wrote w (xs ++ ys) v
+  wrote_then a b =
       let n : length (xs ++ ys) ≡ length xs + length ys = length-append xs ys in
-      record { end = omega (arith, v.end, w.end); put = sets_then out mid exit at a xs ys v.put w.put v.end }
-
-pub wrote_length : {out exit : List ℕ} {at r : ℕ} {xs : List ℕ} → Wrote out at xs exit r → length exit ≡ length out
-wrote_length {out} {exit} {at} {r} {xs} w = ap length w.put ∙ length-sets out at xs
+      let counts : Counts w → Counts m = λ (h : Counts w). record { place = omega (arith, a.end h); long = let k = h.long in omega (arith, ap length (a.put h), length-sets w.out.now w.at xs) } in
+      record {
+        same = b.same ∙ a.same;
+        put = λ h. sets_then w.out.now m.out.now v.out.now w.at (w.at + length xs) xs ys (a.put h) (b.put (counts h) ∙ ap (λ (i : ℕ). sets m.out.now i ys) (a.end h) ∙ sets_counted m.out.now (w.at + length xs) ys (counts h).long) refl;
+        end = λ h. omega (arith, a.end h, b.end (counts h));
+      }
 
 -- the same bytes by another name
-pub wrote_as : {out exit : List ℕ} {at r : ℕ} {xs ys : List ℕ} → xs ≡ ys → Wrote out at xs exit r → Wrote out at ys exit r
-wrote_as {out} {exit} {at} {r} e w = rw (sym e) w
+pub wrote_as : {w v : Writer} {xs ys : List ℕ} → xs ≡ ys → Wrote w xs v → Wrote w ys v
+wrote_as {w} {v} e a = rw (sym e) a
 
 -- ---- numbers
 
-pub digits_none : (k x : ℕ) → k ≡ 0 → [] ≡ digits k x
+appends : AppendsLastDigit digits
 unfolding digits
-digits_none k x e = sym (ap (λ (n : ℕ). digits n x) e)
+appends = record { one = λ k n h. rw (lt-ltb n 10 h); more = λ k n h. rw (le-ltb n 10 h) }
 
-pub digits_last : (k x : ℕ) → 0 < k → x < 10 → (48 + x) ∷ [] ≡ digits k x
-unfolding digits
-digits_last zero x h l = absurd (omega arith)
-digits_last (suc k) x h l = rw (lt-ltb x 10 l)
+-- std's decimal
+decimal_is : (x : ℕ) → x < 2 ^ 64 → decimal x ≡ std-fmt.decimal x
+decimal_is x h = decimal_from_appends digits appends 20 x h (length-decimal-le 20 x (omega arith) (omega arith) h)
 
-pub digits_more : (k x : ℕ) → 0 < k → 10 ≤ x → digits (k - 1) (x / 10) ++ ((48 + x % 10) ∷ []) ≡ digits k x
-unfolding digits
-digits_more zero x h l = absurd (omega arith)
-digits_more (suc k) x h l = rw (le-ltb x 10 l) (ap (λ (n : ℕ). digits n (x / 10) ++ ((48 + x % 10) ∷ [])) (sub-one (suc k)))
+pub decimal_last : (x : ℕ) → x < 10 → (48 + x % 10) ∷ [] ≡ decimal x
+decimal_last x h = let same : x % 10 ≡ x = omega arith in ap (λ (d : ℕ). (48 + d) ∷ []) same ∙ sym (decimal_is x (omega arith) ∙ decimal_digit x h)
+
+pub decimal_more : (x : ℕ) → 10 ≤ x → x < 2 ^ 64 → decimal (x / 10) ++ ((48 + x % 10) ∷ []) ≡ decimal x
+decimal_more x l h = ap (λ (t : List ℕ). t ++ ((48 + x % 10) ∷ [])) (decimal_is (x / 10) (omega arith)) ∙ sym (decimal_is x h ∙ decimal_step x l h)
 
 -- ---- runs of pieces
 

@@ -1,9 +1,8 @@
 -- What the report answers, and what it leaves in the lent buffer (01, "Refusal numbers"). Assumes nothing.
-use Rattle.std.specs.Prelude.{Bool, cond, List, ◌++◌, ℕ, ltb, length, drop}
+use Rattle.std.specs.Prelude.{Result, Ok, Err, Bool, cond, List, ◌++◌, ℕ, ltb, length, drop}
 use Rattle.schedule.specs.Calls.{answered}
 use Rattle.engine.specs.Calls.{outcome_of}
-use Rattle.report.specs.declared.Told.{Told}
-use Rattle.report.specs.declared.Told.TheVariants.{Written, ShortBuffer}
+use Rattle.report.specs.declared.ShortBuffer.{ShortBuffer}
 use Rattle.report.specs.Text.{text}
 
 -- the text of what a replay of these bytes answers and leaves
@@ -11,9 +10,9 @@ abbrev pub reported : List ℕ → List ℕ
 reported bs = text (answered bs) (outcome_of bs)
 
 -- the paper's number, and how many bytes were written
-abbrev pub says : Told → ℕ × ℕ
-says (Written n) = (0, n)
-says ShortBuffer = (22, 0)
+abbrev pub says : Result ℕ ShortBuffer → ℕ × ℕ
+says (Ok n) = (0, n)
+says (Err e) = (22, 0)
 
 -- 22: "the lent buffer is too short for all that is .. written"
 unfoldable pub too_short : List ℕ → List ℕ → Bool

@@ -1,106 +1,89 @@
-// The lines of the report. Each writer asks that its longest text, with 20 digits for a number, ends within the limit.
-ghost use Rattle.std.specs.Prelude.{◌≡◌, cond, [], ◌+◌, ◌≤◌, ◌<◌, eqb};
-ghost use Rattle.schedule.specs.Calls.{says};
+// The lines of the report.
+ghost use Rattle.std.specs.Prelude.{◌≡◌};
+ghost use Rattle.schedule.specs.Calls.{numbers};
+ghost use Rattle.engine.specs.Calls.{says, outcome_in};
 ghost use Rattle.engine.specs.Inside.{InPlaces};
-ghost use Rattle.report.specs.Text.{item, order_text, held_text, delivery_line, start_line, outcome_text, refused_text};
+ghost use Rattle.report.specs.Text.{order_text, held_text, delivery_line, start_line, outcome_text, refused_text};
 ghost use Rattle.report.specs.Text.{text as text_of};
-ghost use Rattle.report.specs.Inside.{Wrote, limit};
+ghost use Rattle.report.specs.Inside.{Wrote};
 
-use crate::{runs, writers};
+use crate::runs;
+use crate::writers::Writer;
 use engine::{Delivery, Outcome};
 use host::Held;
 use orders::Order;
-use schedule::{Answer, index_of, number_of};
+use schedule::{Refusal, number_of};
 
 // The line of a refused file, or all lines of a run.
-pub(crate) fn text(out: &mut [u8], answer: Answer, outcome: Outcome) -> usize
-    requires { InPlaces outcome }
-    ensures { Wrote out.old 0 (text_of (says answer) outcome) out.new result }
+pub(crate) fn text(w: &mut Writer<'_>, ran: &Result<Outcome, Refusal>)
+    requires { InPlaces (outcome_in ran.now) }
+    ensures { Wrote w.old (text_of (says ran.now) (outcome_in ran.now)) w.new }
 {
-    let number = number_of(answer);
-    if number == 0 {
-        return whole(out, outcome);
+    match ran {
+        Ok(outcome) => whole(w, outcome),
+        Err(refusal) => refused(w, *refusal),
     }
-    refused(out, number, index_of(answer))
 }
 
-fn refused(out: &mut [u8], number: u8, index: usize) -> usize
-    ensures { Wrote out.old 0 (refused_text (number, index)) out.new result }
+// With the index of a record outside the rules.
+fn refused(w: &mut Writer<'_>, refusal: Refusal)
+    ensures { Wrote w.old (refused_text (numbers refusal)) w.new }
 {
-    let named = writers::item(out, 0, b"refused ", number as u64);
-    let told = index_item(out, named, number, index);
-    writers::put(out, told, b'\n')
-}
-
-// The index after 32, and nothing after any other number.
-fn index_item(out: &mut [u8], at: usize, number: u8, index: usize) -> usize
-    requires { at + 21 ≤ limit }
-    ensures { Wrote out.old at (cond (eqb number 32) (item " " index) []) out.new result }
-{
-    if number == 32 {
-        return writers::item(out, at, b" ", index as u64);
+    w.item(b"refused ", number_of(refusal) as u64);
+    if let Refusal::OutsideRules(index) = refusal {
+        w.item(b" ", index as u64);
     }
-    at
+    w.put(b'\n');
 }
 
-fn whole(out: &mut [u8], outcome: Outcome) -> usize
-    requires { InPlaces outcome }
-    ensures { Wrote out.old 0 (outcome_text outcome) out.new result }
+fn whole(w: &mut Writer<'_>, outcome: &Outcome)
+    requires { InPlaces outcome.now }
+    ensures { Wrote w.old (outcome_text outcome.now) w.new }
 {
-    let refusals = outcome.refusals;
-    let logs = outcome.logs;
-    let first = writers::line(out, 0, b"delta ", outcome.bound);
-    let starts = runs::starts(out, first, outcome.starts, refusals);
-    let hosts = runs::hosts(out, starts, outcome.hosts as usize, logs);
-    writers::line(out, hosts, b"copies ", outcome.copies as u64)
+    w.line(b"delta ", outcome.bound);
+    runs::starts(w, outcome);
+    runs::hosts(w, outcome);
+    w.line(b"copies ", outcome.copies as u64);
 }
 
 // Nothing for a start that was not refused.
-pub(crate) fn start(out: &mut [u8], at: usize, k: usize, refusal: u8) -> usize
-    requires { at + 56 ≤ limit }
-    ensures { Wrote out.old at (start_line k refusal) out.new result }
+pub(crate) fn start(w: &mut Writer<'_>, k: usize, refusal: u8)
+    ensures { Wrote w.old (start_line k refusal) w.new }
 {
     if refusal == 0 {
-        return at;
+        return;
     }
-    let end = writers::item(out, at, b"start ", k as u64);
-    writers::line(out, end, b" refused ", refusal as u64)
+    w.item(b"start ", k as u64);
+    w.line(b" refused ", refusal as u64);
 }
 
-pub(crate) fn delivery(out: &mut [u8], at: usize, host: usize, d: Delivery) -> usize
-    requires { (host < 10) × (at + 134 ≤ limit) }
-    ensures { Wrote out.old at (delivery_line host d) out.new result }
+pub(crate) fn delivery(w: &mut Writer<'_>, host: usize, d: Delivery)
+    ensures { Wrote w.old (delivery_line host d) w.new }
 {
-    let reading = d.at;
-    let what = d.what;
-    let number = writers::item(out, at, b"host ", host as u64);
-    let shown = writers::item(out, number, b" at ", reading.0);
-    let end = held(out, shown, what);
-    writers::put(out, end, b'\n')
+    w.item(b"host ", host as u64);
+    w.item(b" at ", d.at.0);
+    held(w, d.what);
+    w.put(b'\n');
 }
 
-fn held(out: &mut [u8], at: usize, what: Held) -> usize
-    requires { at + 103 ≤ limit }
-    ensures { Wrote out.old at (held_text what) out.new result }
+fn held(w: &mut Writer<'_>, what: Held)
+    ensures { Wrote w.old (held_text what) w.new }
 {
-    let stamp = what.stamp;
-    let order = what.order;
-    let stamped = writers::item(out, at, b" stamp ", stamp.0);
-    let named = writers::item(out, stamped, b" from ", what.source as u64);
-    ordered(out, named, order)
+    w.item(b" stamp ", what.stamp.0);
+    w.item(b" from ", what.source as u64);
+    ordered(w, what.order);
 }
 
-fn ordered(out: &mut [u8], at: usize, order: Order) -> usize
-    requires { at + 50 ≤ limit }
-    ensures { Wrote out.old at (order_text order) out.new result }
+fn ordered(w: &mut Writer<'_>, order: Order)
+    ensures { Wrote w.old (order_text order) w.new }
 {
     match order {
         Order::Publish { image, share } => {
-            let end = writers::item(out, at, b" publish ", image as u64);
-            writers::item(out, end, b" ", share as u64)
+            w.item(b" publish ", image as u64);
+            w.item(b" ", share as u64);
         }
-        Order::Halt(image) => writers::item(out, at, b" halt ", image as u64),
-        Order::Resume(image) => writers::item(out, at, b" resume ", image as u64),
-        Order::Withdraw(image) => writers::item(out, at, b" withdraw ", image as u64),
+        Order::Halt(image) => w.item(b" halt ", image as u64),
+        Order::Resume(image) => w.item(b" resume ", image as u64),
+        Order::Withdraw(image) => w.item(b" withdraw ", image as u64),
     }
 }

@@ -1,61 +1,65 @@
-// Writers of bytes, words and numbers at a place. Past the end of the buffer they only count, so that the length of a text can be asked for.
-ghost use Rattle.std.specs.Prelude.{[], ◌∷◌, ◌++◌, ◌+◌, ◌≤◌, length};
-ghost use Rattle.report.specs.Text.{digits, decimal};
-ghost use Rattle.report.specs.Inside.{Wrote, limit};
+// Bytes, words and numbers, one after the other.
+ghost use Rattle.std.specs.Prelude.{[], ◌∷◌, ◌++◌};
+ghost use Rattle.report.specs.Text.{decimal};
+ghost use Rattle.report.specs.Inside.{Wrote, Starts};
 
-// A word and a number that a line ends with.
-pub(crate) fn line(out: &mut [u8], at: usize, name: &[u8], x: u64) -> usize
-    requires { at + (length name.now + 21) ≤ limit }
-    ensures { Wrote out.old at (name.now ++ decimal x ++ (10 ∷ [])) out.new result }
-{
-    let end = item(out, at, name, x);
-    put(out, end, b'\n')
+// A lent buffer, and the place of the next byte. Past the end of the buffer a writer only counts, so that the length of a text can be asked for.
+#[derive(Drop)]
+pub(crate) struct Writer<'a> {
+    pub out: &'a mut [u8],
+    pub at: usize,
 }
 
-// A word and a number.
-pub(crate) fn item(out: &mut [u8], at: usize, name: &[u8], x: u64) -> usize
-    requires { at + (length name.now + 20) ≤ limit }
-    ensures { Wrote out.old at (name.now ++ decimal x) out.new result }
-{
-    let end = word(out, at, name);
-    number(out, end, 20, x)
+impl<'a> Writer<'a> {
+    pub(crate) fn new(out: &'a mut [u8]) -> Writer<'a>
+        ensures { Starts out.entry result }
+    {
+        Writer { out, at: 0 }
+    }
 }
 
-pub(crate) fn word(out: &mut [u8], at: usize, name: &[u8]) -> usize
-    requires { at + length name.now ≤ limit }
-    ensures { Wrote out.old at name.now out.new result }
-{
-    let mut end = at;
-    let mut i: usize = 0;
-    while i < name.len() {
-        end = put(out, end, name[i]);
-        i += 1;
+impl Writer<'_> {
+    // A word and a number that a line ends with.
+    pub(crate) fn line(&mut self, name: &[u8], x: u64)
+        ensures { Wrote self.old (name.now ++ decimal x ++ (10 ∷ [])) self.new }
+    {
+        self.item(name, x);
+        self.put(b'\n');
     }
-    end
-}
 
-// A number in its last k digits.
-fn number(out: &mut [u8], at: usize, k: u8, x: u64) -> usize
-    requires { at + k ≤ limit }
-    ensures { Wrote out.old at (digits k x) out.new result }
-{
-    if k == 0 {
-        return at;
+    // A word and a number.
+    pub(crate) fn item(&mut self, name: &[u8], x: u64)
+        ensures { Wrote self.old (name.now ++ decimal x) self.new }
+    {
+        self.word(name);
+        self.number(x);
     }
-    if x < 10 {
-        return put(out, at, b'0' + x as u8);
-    }
-    let end = number(out, at, k - 1, x / 10);
-    put(out, end, b'0' + (x % 10) as u8)
-}
 
-pub(crate) fn put(out: &mut [u8], at: usize, byte: u8) -> usize
-    requires { at ≤ limit }
-    ensures { Wrote out.old at (byte ∷ []) out.new result }
-{
-    if at < out.len() {
-        out[at] = byte;
-        return at + 1;
+    fn word(&mut self, name: &[u8])
+        ensures { Wrote self.old name.now self.new }
+    {
+        for byte in name {
+            self.put(*byte);
+        }
     }
-    at + 1
+
+    // By hand, since the contract of `write!` leaves open whether it fails.
+    fn number(&mut self, x: u64)
+        ensures { Wrote self.old (decimal x) self.new }
+    {
+        if x >= 10 {
+            self.number(x / 10);
+        }
+        self.put(b'0' + (x % 10) as u8);
+    }
+
+    // The count stops at the largest number, which no text reaches.
+    pub(crate) fn put(&mut self, byte: u8)
+        ensures { Wrote self.old (byte ∷ []) self.new }
+    {
+        if self.at < self.out.len() {
+            self.out[self.at] = byte;
+        }
+        self.at = self.at.saturating_add(1);
+    }
 }

@@ -4,14 +4,14 @@ use mathlib.Core.Bool.{cond}
 use mathlib.Core.List.{List}
 use Prim.Native.Nat.{ℕ}
 use lib.Dec.{eqb}
-use Rattle.std.specs.Prelude.{Result, Ok, Err}
+use Rattle.std.specs.Prelude.{Result, Ok, Err, Option, Some, None}
 use Rattle.lists.proofs.One.{one_result}
 use Rattle.network.specs.declared.PlanRefusal.{PlanRefusal}
 use Rattle.network.specs.declared.PlanRefusal.TheVariants.{OutOfRange, BadLink, Parted}
 use Rattle.schedule.specs.declared.Refusal.{Refusal}
 use Rattle.schedule.specs.declared.Refusal.TheVariants.{NotASchedule, Plan, OutsideRules}
 use Rattle.schedule.specs.declared.Schedule.{Schedule}
-use Rattle.schedule.specs.Calls.{numbers, says, found}
+use Rattle.schedule.specs.Calls.{nothing, numbers, says, found}
 use Rattle.schedule.proofs.Verdicts.{Right}
 
 -- what reading returned, by its numbers and its schedule
@@ -30,6 +30,27 @@ answer_back (Err (Plan OutOfRange)) = refl
 answer_back (Err (Plan BadLink)) = refl
 answer_back (Err (Plan Parted)) = refl
 answer_back (Err (OutsideRules k)) = refl
+
+-- the refusal; none of an accepted schedule
+abbrev pub refused_by : Result Schedule Refusal → Option Refusal
+refused_by (Ok s) = None
+refused_by (Err r) = Some r
+
+unfoldable refusal_of : ℕ × ℕ → Option Refusal
+refusal_of n = refused_by (answer_of n nothing)
+
+refusal_back : (r : Result Schedule Refusal) → refusal_of (says r) ≡ refused_by r
+unfolding refusal_of answer_of
+refusal_back (Ok s) = refl
+refusal_back (Err NotASchedule) = refl
+refusal_back (Err (Plan OutOfRange)) = refl
+refusal_back (Err (Plan BadLink)) = refl
+refusal_back (Err (Plan Parted)) = refl
+refusal_back (Err (OutsideRules k)) = refl
+
+-- the numbers alone tell which refusal it is, if any
+pub one_answered : {numbers : ℕ × ℕ} (r s : Result Schedule Refusal) → says r ≡ numbers → says s ≡ numbers → refused_by r ≡ refused_by s
+one_answered r s x y = sym (refusal_back r) ∙ ap refusal_of (one_result x y) ∙ refusal_back s
 
 pub read_one : (bs : List ℕ) (r s : Result Schedule Refusal) → Right bs r → Right bs s → r ≡ s
 read_one bs r s x y =

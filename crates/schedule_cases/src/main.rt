@@ -4,8 +4,6 @@
 
 mod show;
 
-ghost use Rattle.std.specs.Prelude.{◌<◌, length, IfOk};
-
 use std::io;
 use std::io::Read;
 
@@ -15,24 +13,16 @@ fn main(rt: HostRuntime) -> io::Result<()> {
     each(&rt, &buffer[..n.min(65536) as usize])
 }
 
+// Shows the answer for each schedule, up to one that is cut short.
 fn each(rt: &impl Print, bytes: &[u8]) -> io::Result<()> {
-    let mut at: usize = 0;
-    while at < bytes.len() {
-        at = one(rt, bytes, at)?;
+    let mut rest = bytes;
+    while let Some((length, after)) = rest.split_first_chunk::<2>() {
+        let size = u16::from_be_bytes(*length) as usize;
+        let Some((schedule, after)) = after.split_at_checked(size) else {
+            return Ok(());
+        };
+        show::found(rt, schedule::read(schedule))?;
+        rest = after;
     }
     Ok(())
-}
-
-// Shows the answer for the schedule at a place, and tells where the next one begins.
-fn one(rt: &impl Print, bytes: &[u8], at: usize) -> io::Result<usize>
-    requires { at < length bytes.now }
-    ensures { IfOk result (λ next. at < next) }
-{
-    let start = at + 2;
-    let end = start + fields::value_at(bytes, at, 2) as usize;
-    if bytes.len() < end {
-        return Ok(bytes.len());
-    }
-    show::found(rt, schedule::read(&bytes[start..end]))?;
-    Ok(end)
 }

@@ -3,17 +3,17 @@
 use mathlib.Core.Path.{◌≡◌}
 use Rattle.engine.specs.Turns.{in_turn}
 use Rattle.engine.specs.Run.{tick_one, arrive_one, start_one, world}
-use Rattle.engine.specs.Inside.{world_of, post_of}
+use Rattle.engine.specs.Inside.{world_of}
 use Rattle.engine.proofs.playing.play_all.Given as goal
 
 abbrev pub invariant-loop-p : goal.invariant-loop-p
 invariant-loop-p l = l.stations ≡ in_turn l.p (tick_one l.s l.now) l.initial.stations
 
 abbrev pub invariant-loop-c : goal.invariant-loop-c
-invariant-loop-c l = world_of l.stations (post_of l.arrivals l.copies) l.refusals ≡ in_turn l.c (arrive_one l.s l.now) (world_of l.initial.stations (post_of l.initial.arrivals l.initial.copies) l.refusals)
+invariant-loop-c l = world_of l.stations l.post l.refusals ≡ in_turn l.c (arrive_one l.s l.now) (world_of l.initial.stations l.initial.post l.refusals)
 
 abbrev pub invariant-loop-k : goal.invariant-loop-k
-invariant-loop-k l = world_of l.stations (post_of l.arrivals l.copies) l.refusals ≡ in_turn l.k (start_one l.s l.now) (world_of l.initial.stations (post_of l.initial.arrivals l.initial.copies) l.initial.refusals)
+invariant-loop-k l = world_of l.stations l.post l.refusals ≡ in_turn l.k (start_one l.s l.now) (world_of l.initial.stations l.initial.post l.initial.refusals)
 
 abbrev pub invariant-loop-t : goal.invariant-loop-t
-invariant-loop-t l = world_of l.stations (post_of l.arrivals l.copies) l.refusals ≡ world l.s l.t
+invariant-loop-t l = world_of l.stations l.post l.refusals ≡ world l.s l.t

@@ -1,18 +1,11 @@
 -- Each order has its own words. Assumes nothing.
-use native.Mathlib.Omega.{arith}
 use Rattle.report.specs.Text.{item, order_text}
-use Rattle.report.proofs.Sizes.{length_digits}
 use Rattle.report.proofs.Writing.{wrote_then}
 use Rattle.report.proofs.lines.ordered.Goals as goal
 
-pub item-requires : goal.item-requires
-item-requires c =
-    omega (arith, c.item-end.ensures.end, length_digits 20 c.in-Publish.image)
-
 pub returns-in-Publish : goal.returns-in-Publish
 unfolding item order_text
-returns-in-Publish c =
-    rw c.in-Publish.is (wrote_then c.item-end.ensures c.item.ensures)
+returns-in-Publish c = rw c.in-Publish.is (wrote_then c.item.ensures c.item-in-Publish.ensures)
 
 pub returns-in-Halt : goal.returns-in-Halt
 unfolding item order_text

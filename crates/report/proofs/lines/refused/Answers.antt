@@ -1,21 +1,19 @@
--- Its parts, one after the other. Assumes nothing.
-use native.Mathlib.Omega.{arith}
-use lib.Dec.{eqb}
+-- Its parts, one after the other; the index stands after 32 alone. Assumes nothing.
+use mathlib.Core.Path.{ap}
 use Rattle.report.specs.Text.{item, refused_text}
-use Rattle.report.proofs.Sizes.{length_digits, index_size}
-use Rattle.report.proofs.Writing.{wrote_then}
+use Rattle.report.specs.Inside.{Wrote}
+use Rattle.report.proofs.Writing.{wrote_then, wrote_none, wrote_as}
+use Rattle.report.proofs.Reports.{index_text, no_index}
 use Rattle.report.proofs.lines.refused.Goals as goal
-
-pub index_item-told-requires : goal.index_item-told-requires
-index_item-told-requires c =
-    omega (arith, c.item-named.ensures.end, length_digits 20 c.args.number)
-
-pub put-requires : goal.put-requires
-put-requires c =
-    let a = c.args in
-    omega (arith, c.item-named.ensures.end, c.index_item-told.ensures.end, length_digits 20 a.number, index_size (eqb a.number 32) a.index)
+use Rattle.report.proofs.lines.refused.Goals.{in-OutsideRules, in_default}
 
 pub returns : goal.returns
 unfolding item refused_text
 returns c =
-    wrote_then (wrote_then c.item-named.ensures c.index_item-told.ensures) c.put.ensures
+    let r = c.args.refusal in
+    let named = wrote_as (ap (item "refused ") c.number_of.ensures) c.item.ensures in
+    let told : Wrote c.item.new.self (index_text r) c.match-refusal.w = elim c.match-refusal.branch [
+      | in-OutsideRules x ↦ rw (x.in-OutsideRules.is, x.w-is) x.item-in-OutsideRules.ensures
+      | in_default x ↦ rw x.w-is (wrote_as (no_index r x.in_default.not-OutsideRules) (wrote_none _))
+    ] in
+    wrote_then (wrote_then named told) c.put.ensures

@@ -1,16 +1,11 @@
--- The number that the answer says decides. Assumes nothing.
-use mathlib.Core.Path.{sym, ◌∙◌}
+-- A run has its lines, a refusal its one. Assumes nothing.
+use Rattle.engine.specs.Calls.{no_outcome}
 use Rattle.report.proofs.Writing.{wrote_as}
-use Rattle.schedule.specs.Calls.{says}
 use Rattle.report.proofs.Reports.{text_run, text_refused}
 use Rattle.report.proofs.lines.text.Goals as goal
 
-pub returns-then-number-eq0 : goal.returns-then-number-eq0
-returns-then-number-eq0 c =
-    let a = c.args in
-    wrote_as (text_run (says a.answer) a.outcome (sym c.number_of-number.ensures ∙ c.if-number-eq0.true)) c.whole.ensures
+pub returns-in-Ok : goal.returns-in-Ok
+returns-in-Ok c = rw c.in-Ok.is (wrote_as (text_run c.in-Ok.outcome) c.whole.ensures)
 
-pub returns : goal.returns
-returns c =
-    let a = c.args in
-    wrote_as (text_refused (says a.answer) a.outcome _ _ c.number_of-number.ensures c.index_of.ensures c.if-number-eq0.false) c.refused.ensures
+pub returns-in-Err : goal.returns-in-Err
+returns-in-Err c = rw c.in-Err.is (wrote_as (text_refused c.in-Err.refusal no_outcome) c.refused.ensures)

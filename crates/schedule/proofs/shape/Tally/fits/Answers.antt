@@ -28,7 +28,7 @@ returns-in-20 c = simp (c.size-size.ensures, sym c.tag.ensures ∙ c.in-20.is)
 
 pub returns-in-21 : goal.returns-in-21
 unfolding fits_at
-returns-in-21 c = simp (c.start_fits.ensures, c.size-size.ensures, sym c.tag.ensures ∙ c.in-21.is)
+returns-in-21 c = simp (c.start_fits.ensures, sym c.tag.ensures ∙ c.in-21.is)
 
 pub returns-in_default : goal.returns-in_default
 unfolding fits_at
@@ -39,4 +39,4 @@ returns-in_default c =
     let n19 : c.tag.result ≢ 19 = omega arith in
     let n20 : c.tag.result ≢ 20 = omega arith in
     let n21 : c.tag.result ≢ 21 = omega arith in
-    rw (← c.tag.ensures) (simp (c.fate_fits.ensures, c.size-size.ensures, ne_eqb _ _ n16, ne_eqb _ _ n17, ne_eqb _ _ n18, ne_eqb _ _ n19, ne_eqb _ _ n20, ne_eqb _ _ n21))
+    rw (← c.tag.ensures) (simp (c.fate_fits.ensures, ne_eqb _ _ n16, ne_eqb _ _ n17, ne_eqb _ _ n18, ne_eqb _ _ n19, ne_eqb _ _ n20, ne_eqb _ _ n21))
