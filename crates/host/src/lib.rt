@@ -11,7 +11,6 @@ mod receiving;
 mod sound;
 mod starting;
 mod starts;
-mod states;
 mod stored;
 mod ticking;
 mod unused;
@@ -33,7 +32,7 @@ pub use ticking::{after_tick, tick_answer};
 pub use walks::{due_in_front, is_sound_in, look};
 
 // An order under its name, which is its stamp and its source.
-#[derive(Clone, Copy)]
+#[derive(Clone, Copy, Debug, PartialEq, Eq)]
 pub struct Held {
     pub stamp: Reading, // T
     pub source: u8,

@@ -6,7 +6,7 @@ ghost use Rattle.host.specs.Answers.{refusal_of};
 ghost use Rattle.host.specs.Make.{unstarted, cleared, made, make_refusal, make_host};
 
 use crate::checks::refuse_if;
-use crate::unused::no_held;
+use crate::unused::NO_HELD;
 use crate::{Host, Refusal};
 use clock::Reading;
 use network::planning::plan as planned;
@@ -37,7 +37,7 @@ fn no_starts(plan: Plan, rules: u8, d: u8, bound: u64, own: u8) -> Host
         started: 0,
         starts: [Reading(0); 4],
         held: 0,
-        history: [no_held(); 32],
+        history: [NO_HELD; 32],
     }
 }
 

@@ -7,36 +7,20 @@ ghost use Rattle.host.specs.OwnLinks.{set_of, placed, ends_but};
 ghost use Rattle.host.specs.Receive.{in_plan, copy_fits, early, late, receive_checks, receive_refusal, relay_hop, receive_answer, receive_says, receive_host};
 
 use crate::checks::refuse_if;
-use crate::history::{is_due, with_held};
+use crate::history::{hold, is_due};
+use crate::lent::receive;
 use crate::links::{is_end, links_but};
-use crate::sound::{frame_of, is_sound};
-use crate::states::at_reading;
-use crate::walks::look;
 use crate::{Acted, Frame, Held, Host, Refusal, Seen, Sent};
 use clock::{Reading, is_reading, is_stamp, reached};
 use network::Plan;
 use orders::{hop_fits, share_fits};
 
-// The order is held, to be relayed on all own links but the one it came over; or the state comes back as it was.
-pub fn after_receive(host: Host, u: Reading, arrival: u8, hop: u8, copy: Held) -> Acted
+// The call `receive`, by value.
+pub fn after_receive(mut host: Host, u: Reading, arrival: u8, hop: u8, copy: Held) -> Acted
     ensures { (result.host ≡ receive_host host u arrival hop copy) × (says result.answer ≡ receive_says host u.0 arrival hop copy) }
 {
-    if !is_sound(host) {
-        return Acted {
-            host,
-            answer: Err(Refusal::Unsound),
-        };
-    }
-    let held = &host.history[..host.held];
-    let seen = look(held, copy);
-    let answer = receive_answer(frame_of(host), u, arrival, hop, copy, seen);
-    match answer {
-        Err(_) => Acted { host, answer },
-        Ok(_) => Acted {
-            host: receive_held(host, u, arrival, hop, copy),
-            answer,
-        },
-    }
+    let answer = receive(&mut host, u, arrival, hop, copy);
+    Acted { host, answer }
 }
 
 // What a received copy is answered, by all of a sound state but its history, and by what was seen there.
@@ -78,6 +62,7 @@ fn receive_checks(
     )?;
     refuse_if(!is_fit_copy(rules, hop, copy), Refusal::BadValue)?;
     refuse_if(!is_reading(u), Refusal::BadReading)?;
+    // By their numbers: with the derived order the proof of so long a chain did not close.
     refuse_if(u.0 < frame.last.0, Refusal::Behind)?;
     refuse_if(is_early(rules, plan, u, hop, stamp), Refusal::Early)?;
     refuse_if(is_late(rules, plan, u, hop, stamp), Refusal::Late)?;
@@ -128,15 +113,12 @@ fn is_late(rules: u8, plan: Plan, u: Reading, hop: u8, stamp: Reading) -> bool
         )
 }
 
-fn receive_held(host: Host, u: Reading, arrival: u8, hop: u8, copy: Held) -> Host
-    requires { receive_refusal host u.0 arrival hop copy ≡ 0 }
-    ensures { result ≡ receive_host host u arrival hop copy }
+pub(crate) fn receive_held(host: &mut Host, u: Reading, arrival: u8, hop: u8, copy: Held)
+    requires { receive_refusal host.old u.0 arrival hop copy ≡ 0 }
+    ensures { host.new ≡ receive_host host.old u arrival hop copy }
 {
-    let starts = host.starts;
-    let history = host.history;
-    let held = host.held;
-    let after = with_held(history, held, copy);
-    at_reading(host, u, starts, host.started, after, held + 1)
+    hold(host, copy);
+    host.last = u;
 }
 
 fn relay_links(plan: Plan, own: u8, arrival: u8, hop: u8) -> u16

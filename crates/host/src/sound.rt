@@ -13,25 +13,28 @@ use orders::is_rules;
 pub fn is_sound(host: Host) -> bool
     ensures { result ≡ sound host }
 {
+    is_lent_sound(&host)
+}
+
+pub(crate) fn is_lent_sound(host: &Host) -> bool
+    ensures { result ≡ sound host.now }
+{
     is_sound_in(frame_of(host), &host.history)
 }
 
 // A state but for its history.
-pub(crate) fn frame_of(host: Host) -> Frame
-    ensures { result ≡ frame_of host }
+pub(crate) fn frame_of(host: &Host) -> Frame
+    ensures { result ≡ frame_of host.now }
 {
-    let plan = host.plan;
-    let last = host.last;
-    let starts = host.starts;
     Frame {
-        plan,
+        plan: host.plan,
         rules: host.rules,
         d: host.d,
         bound: host.bound,
         own: host.own,
-        last,
+        last: host.last,
         started: host.started,
-        starts,
+        starts: host.starts,
         held: host.held,
     }
 }

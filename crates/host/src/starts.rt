@@ -33,7 +33,7 @@ pub(crate) fn starts_rise(starts: [Reading; 4], started: usize) -> bool
 fn is_earlier(s: Reading, t: Reading) -> bool
     ensures { result ≡ earlier s t }
 {
-    s.0 < t.0
+    s < t
 }
 
 // Whether no start is above the last reading.
@@ -47,7 +47,7 @@ pub(crate) fn starts_passed(starts: [Reading; 4], started: usize, last: Reading)
 fn is_passed(s: Reading, last: Reading) -> bool
     ensures { result ≡ not_above last.0 s }
 {
-    s.0 <= last.0
+    s <= last
 }
 
 // The last four starts with one more; the places behind them zero.

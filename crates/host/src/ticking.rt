@@ -9,32 +9,18 @@ ghost use Rattle.host.specs.Tick.{due_of, due_in, waiting_in, written, tick_chec
 use crate::checks::refuse_if;
 use crate::entries::put_entry;
 use crate::history::is_due;
-use crate::sound::{frame_of, is_sound};
-use crate::states::{at_reading, later};
-use crate::unused::no_held;
+use crate::lent::tick;
+use crate::unused::NO_HELD;
 use crate::walks::due_in_front;
 use crate::{Frame, Held, Host, Refusal, Ticked};
 use clock::{Reading, is_reading};
 
-// Every order that is due leaves the history for the lent list; or the state comes back as it was, and the list keeps its bytes.
-pub fn after_tick(host: Host, u: Reading, out: &mut [u8]) -> Ticked
+// The call `tick`, by value.
+pub fn after_tick(mut host: Host, u: Reading, out: &mut [u8]) -> Ticked
     ensures { (result.host ≡ tick_host host u (length out.old)) × ((says_tick result.answer ≡ tick_says host u.0 (length out.old)) × (out.new ≡ tick_list host u.0 out.old)) }
 {
-    if !is_sound(host) {
-        return Ticked {
-            host,
-            answer: Err(Refusal::Unsound),
-        };
-    }
-    let count = due_count(host, u);
-    let answer = tick_answer(frame_of(host), u, out.len(), count);
-    match answer {
-        Err(_) => Ticked { host, answer },
-        Ok(_) => Ticked {
-            host: tick_left(host, u, out),
-            answer,
-        },
-    }
+    let answer = tick(&mut host, u, out);
+    Ticked { host, answer }
 }
 
 // What a tick answers, by all of a sound state but its history, and by how many are due there.
@@ -49,47 +35,49 @@ fn tick_checks(frame: Frame, u: Reading, room: usize, count: usize) -> Result<()
     ensures { refusal_of result ≡ first_of (tick_checks (bare frame) u.0 room count) }
 {
     refuse_if(!is_reading(u), Refusal::BadReading)?;
-    refuse_if(u.0 < frame.last.0, Refusal::Behind)?;
+    refuse_if(u < frame.last, Refusal::Behind)?;
     refuse_if(room / 16 < count, Refusal::ShortBuffer)
 }
 
-fn tick_left(host: Host, u: Reading, out: &mut [u8]) -> Host
-    requires { tick_refusal host u.0 (length out.old) ≡ 0 }
-    ensures value { result ≡ tick_host host u (length out.old) }
-    ensures out_after { out.new ≡ tick_list host u.0 out.old }
+pub(crate) fn tick_left(host: &mut Host, u: Reading, out: &mut [u8])
+    requires { tick_refusal host.old u.0 (length out.old) ≡ 0 }
+    ensures value { host.new ≡ tick_host host.old u (length out.old) }
+    ensures out_after { out.new ≡ tick_list host.old u.0 out.old }
 {
     if is_idle(host, u) {
-        return later(host, u);
+        host.last = u;
+        return;
     }
-    let starts = host.starts;
     let held = &host.history[..host.held];
     let left = deliver(out, held, host.bound, u);
     let rest = left.history;
-    at_reading(host, u, starts, host.started, rest, left.held)
+    host.history = rest;
+    host.held = left.held;
+    host.last = u;
 }
 
-// What a delivery leaves of the history.
+// What a delivery leaves of the history: places and how many are used, since there is no heap.
 #[derive(Clone, Copy)]
 pub(crate) struct Rest {
     pub held: usize,
     pub history: [Held; 32],
 }
 
-// How many orders are due: they stand in front, since stamps rise.
-fn due_count(host: Host, u: Reading) -> usize
-    requires { sound host ≡ true }
-    ensures { result ≡ length (due_of host u.0) }
+// How many orders are due.
+pub(crate) fn due_count(host: &Host, u: Reading) -> usize
+    requires { sound host.now ≡ true }
+    ensures { result ≡ length (due_of host.now u.0) }
 {
-    due_in_front(&host.history[..host.held], host.bound, u)
+    let held = &host.history[..host.held];
+    due_in_front(held, host.bound, u)
 }
 
 // Whether nothing is due: the first of those held is due before all others.
-fn is_idle(host: Host, u: Reading) -> bool
-    requires { sound host ≡ true }
-    ensures { result ≡ eqb (length (due_of host u.0)) 0 }
+fn is_idle(host: &Host, u: Reading) -> bool
+    requires { sound host.now ≡ true }
+    ensures { result ≡ eqb (length (due_of host.now u.0)) 0 }
 {
-    let first = host.history[0];
-    (host.held == 0) | !is_due(first, host.bound, u)
+    (host.held == 0) | !is_due(host.history[0], host.bound, u)
 }
 
 // Writes the entries of those that are due from the front of the lent list, and keeps the others.
@@ -99,7 +87,7 @@ fn deliver(out: &mut [u8], history: &[Held], bound: u64, u: Reading) -> Rest
     ensures history_value { result.history ≡ pad 32 no_held (waiting_in bound u.0 history.now) }
     ensures out_after { out.new ≡ written (due_in bound u.0 history.now) out.old }
 {
-    let mut rest = [no_held(); 32];
+    let mut rest = [NO_HELD; 32];
     let mut waiting: usize = 0;
     let mut delivered: usize = 0;
     for e in history {

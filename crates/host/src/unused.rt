@@ -8,15 +8,12 @@ use clock::Reading;
 use network::Link;
 use orders::Order;
 
-pub(crate) fn no_held() -> Held
-    ensures { result ≡ no_held }
-{
-    Held {
-        stamp: Reading(0),
-        source: 0,
-        order: Order::Publish { image: 0, share: 0 },
-    }
-}
+// What an unused place of a history holds.
+pub(crate) const NO_HELD: Held = Held {
+    stamp: Reading(0),
+    source: 0,
+    order: Order::Publish { image: 0, share: 0 },
+};
 
 // Whether the link places from `used` on are zero.
 pub(crate) fn links_unused(links: [Link; 12], used: usize) -> bool
@@ -41,11 +38,12 @@ pub(crate) fn starts_unused(starts: [Reading; 4], used: usize) -> bool
 fn is_no_reading(s: Reading) -> bool
     ensures { result ≡ is_no_reading s }
 {
-    s.0 == 0
+    s == Reading(0)
 }
 
 pub(crate) fn is_no_held(e: Held) -> bool
     ensures { result ≡ is_no_held e }
 {
+    // == of NO_HELD was tried, and is slower.
     (e.stamp.0 == 0) & (e.source == 0) & matches!(e.order, Order::Publish { image: 0, share: 0 })
 }

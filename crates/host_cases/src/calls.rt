@@ -59,11 +59,11 @@ pub(crate) fn run(rt: &impl Print, host: &mut Host, call: Call) -> io::Result<()
         } => {
             let made = host::make(network(number), rules, own);
             *host = made.unwrap_or(zero());
-            show::made(rt, made, *host)
+            show::made(rt, made, host)
         }
         Call::Start { u, order } => {
             let answer = host::start(host, u, order);
-            show::sent(rt, "start", answer, *host)
+            show::sent(rt, "start", answer, host)
         }
         Call::Receive {
             u,
@@ -72,12 +72,12 @@ pub(crate) fn run(rt: &impl Print, host: &mut Host, call: Call) -> io::Result<()
             copy,
         } => {
             let answer = host::receive(host, u, arrival, hop, copy);
-            show::sent(rt, "receive", answer, *host)
+            show::sent(rt, "receive", answer, host)
         }
         Call::Tick { u, room } => {
             let mut out = [255; 600];
             let answer = host::tick(host, u, &mut out[..room.min(600)]);
-            show::ticked(rt, answer, &out, *host)
+            show::ticked(rt, answer, &out, host)
         }
         Call::Set(part) => {
             set(host, part);

@@ -2,7 +2,7 @@
 use host::{Host, Refusal, Sent};
 use std::io;
 
-pub(crate) fn made(rt: &impl Print, answer: Result<Host, Refusal>, host: Host) -> io::Result<()> {
+pub(crate) fn made(rt: &impl Print, answer: Result<Host, Refusal>, host: &Host) -> io::Result<()> {
     match answer {
         Ok(_) => print!(rt; "make {} {}", host.d, host.bound)?,
         Err(refusal) => refused(rt, "make", refusal)?,
@@ -14,7 +14,7 @@ pub(crate) fn sent(
     rt: &impl Print,
     call: &str,
     answer: Result<Sent, Refusal>,
-    host: Host,
+    host: &Host,
 ) -> io::Result<()> {
     match answer {
         Ok(sent) => print!(rt; "{call} {} {}", sent.links, sent.hop)?,
@@ -28,7 +28,7 @@ pub(crate) fn ticked(
     rt: &impl Print,
     answer: Result<usize, Refusal>,
     out: &[u8; 600],
-    host: Host,
+    host: &Host,
 ) -> io::Result<()> {
     match answer {
         Ok(count) => {
@@ -46,6 +46,6 @@ fn refused(rt: &impl Print, call: &str, refusal: Refusal) -> io::Result<()> {
     print!(rt; "{call} refused {}", u8::from(refusal))
 }
 
-fn state(rt: &impl Print, host: Host) -> io::Result<()> {
+fn state(rt: &impl Print, host: &Host) -> io::Result<()> {
     println!(rt; ", {} {} {}", host.held, host.started, host.last.0)
 }

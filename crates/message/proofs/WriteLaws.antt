@@ -4,7 +4,7 @@ use mathlib.Core.Bool.{Bool, true, false, cond, ◌&&◌, and_assoc, and-true}
 use mathlib.Core.List.{List, [], ◌∷◌, ◌++◌}
 use Prim.Native.Nat.{ℕ, ◌+◌, ◌<◌, ◌≤◌}
 use native.Mathlib.Omega.{arith}
-use borrow.Author.Tests.{lt-ltb, le-ltb, eq-eqb, ne_eqb}
+use borrow.Author.Tests.{lt-ltb, le-ltb, ne_eqb}
 use lib.Dec.{eqb}
 use lib.ListN.{length, length-append}
 use Rattle.lists.specs.Bytes.{be}
@@ -12,6 +12,7 @@ use Rattle.lists.specs.Lists.{flat}
 use Rattle.lists.specs.Tests.{all_of}
 use Rattle.orders.specs.Orders.{order_bytes, kind_of, image_of, share_of}
 use Rattle.orders.specs.declared.Order.{Order}
+use Rattle.orders.specs.declared.Order.TheVariants.{Publish, Halt, Resume, Withdraw}
 use Rattle.orders.proofs.Laws.{size_bytes}
 use Rattle.fields.specs.Fields.{field, placed}
 use Rattle.fields.specs.Slots.{span, filled}
@@ -101,17 +102,23 @@ start_put o l l1 l2 l3 l4 at size kind image h s k i p1 p2 p3 p4 =
     let three = placed_then l l2 l3 at (at + 3) _ _ two p3 refl (omega arith) in
     placed_then l l3 l4 at (at + 4) _ _ three p4 refl (omega arith) ∙ rw (s, k, i) refl
 
-module _ (o : Order) (l l4 : List ℕ) (at : ℕ) (room : at + length (field 4 (order_bytes o)) ≤ length l) (p : l4 ≡ placed l at (order_start o)) where
-  pub no_share : (kind_of o ≡ 1 → ⊥) → l4 ≡ placed l at (field 4 (order_bytes o))
-  unfolding be field order_bytes
-  no_share e = p ∙ simp (ne_eqb (kind_of o) 1 e)
+other_kind : (o : Order) → ((image share : ℕ) → o ≡ Publish image share → ⊥) → kind_of o ≡ 1 → ⊥
+other_kind (Publish image share) n e = n image share refl
+other_kind (Halt image) n e = omega arith
+other_kind (Resume image) n e = omega arith
+other_kind (Withdraw image) n e = omega arith
 
-  pub with_share : (share : ℕ) (l5 : List ℕ) → kind_of o ≡ 1 → share ≡ share_of o → l5 ≡ placed l4 (at + 8) (be 1 share) → l5 ≡ placed l at (field 4 (order_bytes o))
+module _ (o : Order) (l l4 : List ℕ) (at : ℕ) (room : at + length (field 4 (order_bytes o)) ≤ length l) (p : l4 ≡ placed l at (order_start o)) where
+  pub no_share : ((image share : ℕ) → o ≡ Publish image share → ⊥) → l4 ≡ placed l at (field 4 (order_bytes o))
   unfolding be field order_bytes
-  with_share share l5 e q p5 =
-      let one : eqb (kind_of o) 1 ≡ true = eq-eqb (kind_of o) 1 e in
+  no_share n = p ∙ simp (ne_eqb (kind_of o) 1 (other_kind o n))
+
+  pub with_share : (image share : ℕ) (l5 : List ℕ) → o ≡ Publish image share → l5 ≡ placed l4 (at + 8) (be 1 share) → l5 ≡ placed l at (field 4 (order_bytes o))
+  unfolding be field order_bytes
+  with_share image share l5 e p5 =
+      let one : eqb (kind_of o) 1 ≡ true = ap (λ (x : Order). eqb (kind_of x) 1) e in
       let h : at + 9 ≤ length l = omega (arith, rw one at room) in
-      placed_then l l4 l5 at (at + 8) (order_start o) _ p p5 refl (omega arith) ∙ rw q (simp one)
+      placed_then l l4 l5 at (at + 8) (order_start o) _ p p5 refl (omega arith) ∙ rw (← ap share_of e) (simp one)
 
 -- ---- the message, in four fields
 

@@ -62,8 +62,8 @@ fn put_order(out: &mut [u8], at: usize, order: Order)
     ensures { out.new ≡ placed out.old at (field 4 (order_bytes order)) }
 {
     put_start(out, at, order);
-    if orders::kind(order) == 1 {
-        fields::put(out, at + 8, 1, orders::share(order) as u64);
+    if let Order::Publish { share, .. } = order {
+        fields::put(out, at + 8, 1, share as u64);
     }
 }
 

@@ -33,6 +33,7 @@ impl<'a> Tally<'a> {
         let mut links = 0;
         let mut starts = 0;
         let mut end = 0;
+        // No `for`: how many records there are is what the walk finds.
         while end < bytes.len() {
             let here = Record { bytes, at: end };
             let tag = here.tag();

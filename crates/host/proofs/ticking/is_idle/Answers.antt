@@ -9,5 +9,5 @@ use Rattle.host.proofs.ticking.is_idle.Goals as goal
 pub returns : goal.returns
 returns c =
     let a = c.args in
-    let n : length a.host.history ≡ 32 = search rules in
-    rw c.is_due.ensures (first_due a.host a.u.0 n (sound_is _ c.requires))
+    let n : length a.host.now.history ≡ 32 = search rules in
+    rw c.is_due.ensures (first_due a.host.now a.u.0 n (sound_is _ c.requires))

@@ -1,5 +1,4 @@
 -- What every order begins with, and a publish's share after it, are the field. Assumes nothing.
-use mathlib.Core.Path.{sym, ◌∙◌}
 use native.Mathlib.Omega.{arith}
 use Rattle.orders.specs.Orders.{order_bytes}
 use Rattle.fields.proofs.Placing.{length_field}
@@ -11,11 +10,12 @@ put_start-requires c =
     let o = c.args.order in
     omega (arith, c.requires, length_field 4 (order_bytes o), (size_small o).0)
 
-pub returns-then-kind-eq1 : goal.returns-then-kind-eq1
-returns-then-kind-eq1 c =
-    with_share c.args.order c.args.out.now _ c.args.at c.requires c.put_start.ensures _ _ (sym c.kind.ensures ∙ c.if-kind-eq1.true)
-    c.share.ensures c.put.ensures.1
+pub returns-in-Publish : goal.returns-in-Publish
+returns-in-Publish c =
+    let a = c.args in
+    with_share a.order a.out.now _ a.at c.requires c.put_start.ensures c.in-Publish.image c.in-Publish.share _ c.in-Publish.is c.put.ensures.1
 
-pub returns-else-kind-eq1 : goal.returns-else-kind-eq1
-returns-else-kind-eq1 c =
-    no_share c.args.order c.args.out.now _ c.args.at c.requires c.put_start.ensures (λ e. c.if-kind-eq1.false (c.kind.ensures ∙ e))
+pub returns-in_default : goal.returns-in_default
+returns-in_default c =
+    let a = c.args in
+    no_share a.order a.out.now _ a.at c.requires c.put_start.ensures c.in_default.not-Publish
