@@ -1,54 +1,62 @@
--- The two loops that move the places of an array by one, whatever stands there: down, over one that is taken out, and up, for one that is put in.
--- Assumes nothing.
-use mathlib.Core.Path.{◌≡◌, refl, ◌∙◌, subst}
-use mathlib.Core.List.{List, [], ◌∷◌, ◌++◌}
-use Prim.Native.Nat.{ℕ, ◌+◌, ◌≤◌, ◌<◌}
+-- The places of an array moved by one: down, over one that is taken out, and up, for one that is put in. Assumes nothing.
+use mathlib.Core.Path.{◌≡◌, refl, sym, ap, ◌∙◌}
+use mathlib.Core.List.{List, [], ◌∷◌, ◌++◌, append-nil, map}
+use Prim.Native.Nat.{ℕ, suc, ◌+◌, ◌-◌, ◌≤◌}
 use native.Mathlib.Omega.{arith}
-use lib.ListN.{length, take, drop, get_or, set, length-set}
-use Rattle.lists.proofs.Places.{close_turn, close_end, shift_turn, shift_end}
+use lib.ListN.{length, take, drop, set, length-drop, drop_of_length-le}
+use lib.Seq.{paste, take_all, set_split, length-take-le, take-append-le, take-append-add}
+use Rattle.std.proofs.lemmas.List.{map-append, take-take, drop_at}
+use Rattle.std.proofs.lemmas.List.Edits.{length-paste, take-paste}
+use Rattle.std.specs.List.{copy_within, take-map, drop-map}
 
--- with the place at i left out, the places are those of l without the one at `at`; the last place is `last`
-pub record MovedDown {A : Type 0} (last : ℕ) (l : List A) (at : ℕ) (out : List A) (i : ℕ) : Type 0 where
-  pub within : i ≤ last
-  pub long : length out ≡ last + 1
-  pub is : take i out ++ drop (i + 1) out ≡ take at l ++ drop (at + 1) l
+module _ {A : Type 0} (last : ℕ) (l : List A) (at : ℕ) (long : length l ≡ last + 1) (h : at ≤ last) where
+  -- those after `at` over it, and z in the last place
+  pub moved_down : (z : A) → set (copy_within l (at + 1) (length l) at) last z ≡ take at l ++ drop (at + 1) l ++ (z ∷ [])
+  moved_down z =
+      let n : ℕ = length l - (at + 1) in
+      let moved : List A = paste l at (drop (at + 1) l) n in
+      let left : length (drop (at + 1) l) ≡ n = length-drop (at + 1) l in
+      let as_long : length moved ≡ length l = length-paste l at (drop (at + 1) l) n (omega arith) (omega arith) in
+      let whole : at + n ≡ last = omega arith in
+      let first : take last moved ≡ take at l ++ drop (at + 1) l =
+      ap (λ (k : ℕ). take k moved) (sym whole)
+      ∙ take-paste l at (drop (at + 1) l) n (omega arith) (omega arith)
+      ∙ ap (λ (t : List A). take at l ++ t) (take_all n (drop (at + 1) l) (omega arith)) in
+      let none : drop (suc last) moved ≡ [] = drop_of_length-le moved {i = suc last} (omega arith) in
+      set_split moved last z (omega arith)
+      ∙ ap (λ (t : List A). take last moved ++ (z ∷ t)) none
+      ∙ ap (λ (t : List A). t ++ (z ∷ [])) first
 
-module _ {A : Type 0} {last : ℕ} {l : List A} {at : ℕ} where
-  pub down_start : length l ≡ last + 1 → at ≤ last → MovedDown last l at l at
-  down_start n h = record { within = h; long = n; is = refl }
+  -- those from `at` on behind it, and x there
+  pub moved_up : (x : A) → set (copy_within l at last (at + 1)) at x ≡ take (last + 1) (take at l ++ (x ∷ drop at l))
+  moved_up x =
+      let n : ℕ = last - at in
+      let moved : List A = paste l (at + 1) (drop at l) n in
+      let left : length (drop at l) ≡ length l - at = length-drop at l in
+      let front : length (take (at + 1) l) ≡ at + 1 = length-take-le (at + 1) l (omega arith) in
+      let before : length (take at l) ≡ at = length-take-le at l (omega arith) in
+      let as_long : length moved ≡ length l = length-paste l (at + 1) (drop at l) n (omega arith) (omega arith) in
+      let none : drop (at + 1 + n) l ≡ [] = drop_of_length-le l {i = at + 1 + n} (omega arith) in
+      let all : moved ≡ take (at + 1) l ++ take n (drop at l) =
+      ap (λ (t : List A). take (at + 1) l ++ take n (drop at l) ++ t) none ∙ append-nil (take (at + 1) l ++ take n (drop at l)) in
+      let first : take at moved ≡ take at l =
+      ap (take at) all ∙ take-append-le at (take (at + 1) l) (take n (drop at l)) (omega arith) ∙ take-take at (at + 1) l (omega arith) in
+      let rest : drop (suc at) moved ≡ take n (drop at l) = ap (drop (suc at)) all ∙ drop_at (take (at + 1) l) (take n (drop at l)) (suc at) (omega arith) in
+      let whole : last + 1 ≡ length (take at l) + suc n = omega arith in
+      set_split moved at x (omega arith)
+      ∙ ap (λ (t : List A). t ++ (x ∷ drop (suc at) moved)) first
+      ∙ ap (λ (t : List A). take at l ++ (x ∷ t)) rest
+      ∙ sym (take-append-add (take at l) (x ∷ drop at l) (suc n))
+      ∙ ap (λ (k : ℕ). take k (take at l ++ (x ∷ drop at l))) (sym whole)
 
-  module _ {out : List A} {i : ℕ} (z : A) (s : MovedDown last l at out i) where
-    pub down_turn : i < last → MovedDown last l at (set out i (get_or out (i + 1) z)) (i + 1)
-    down_turn h =
-        record {
-          within = omega arith;
-          long = length-set out i (get_or out (i + 1) z) ∙ s.long;
-          is = close_turn z out i (omega (arith, s.long)) s.is;
-        }
+module _ {P Q : Type 0} (place : P → Q) (l : List P) where
+  -- what stands in the places then
+  pub put_map : (n at : ℕ) (x : P) → map place (take n (take at l ++ (x ∷ drop at l))) ≡ take n (take at (map place l) ++ (place x ∷ drop at (map place l)))
+  put_map n at x =
+      sym (take-map place n (take at l ++ (x ∷ drop at l)))
+      ∙ ap (take n) (map-append place (take at l) (x ∷ drop at l) ∙ rw (take-map place at l, drop-map place at l) refl)
 
-    pub down_end : last ≤ i → set out last z ≡ take at l ++ drop (at + 1) l ++ (z ∷ [])
-    down_end h =
-        let end : i ≡ last = omega (arith, s.within) in
-        close_end z out last s.long (subst (λ (k : ℕ). take k out ++ drop (k + 1) out ≡ take at l ++ drop (at + 1) l) end s.is)
-
--- with what is carried put in at i, the places are those of l with x put in at `at`; there are n
-pub record MovedUp {A : Type 0} (n : ℕ) (l : List A) (at : ℕ) (x : A) (out : List A) (carried : A) (i : ℕ) : Type 0 where
-  pub within : i ≤ n
-  pub long : length out ≡ n
-  pub is : take i out ++ (carried ∷ drop i out) ≡ take at l ++ (x ∷ drop at l)
-
-module _ {A : Type 0} {n : ℕ} {l : List A} {at : ℕ} {x : A} where
-  pub up_start : length l ≡ n → at ≤ n → MovedUp n l at x l x at
-  up_start e h = record { within = h; long = e; is = refl }
-
-  module _ {out : List A} {carried : A} {i : ℕ} (s : MovedUp n l at x out carried i) where
-    pub up_turn : (z : A) → i < n → MovedUp n l at x (set out i carried) (get_or out i z) (i + 1)
-    up_turn z h =
-        record {
-          within = omega arith;
-          long = length-set out i carried ∙ s.long;
-          is = shift_turn z out carried i (omega (arith, s.long)) s.is;
-        }
-
-    pub up_end : n ≤ i → out ≡ take n (take at l ++ (x ∷ drop at l))
-    up_end h = shift_end out carried i n s.long h s.is
+  pub cut_map : (at k : ℕ) (z : P) → map place (take at l ++ drop k l ++ (z ∷ [])) ≡ take at (map place l) ++ drop k (map place l) ++ (place z ∷ [])
+  cut_map at k z =
+      map-append place (take at l ++ drop k l) (z ∷ [])
+      ∙ ap (λ (t : List Q). t ++ (place z ∷ [])) (map-append place (take at l) (drop k l) ∙ rw (take-map place at l, drop-map place k l) refl)

@@ -1,6 +1,7 @@
 -- The promise of each public function admits one result only: the answer, and the board that is left. Assumes nothing.
 use mathlib.Core.Path.{◌≡◌, refl, ap₂}
 use mathlib.Core.Bool.{Bool, cond}
+use mathlib.Core.List.{List}
 use Prim.Native.Nat.{ℕ}
 use lib.Dec.{eqb}
 use Rattle.std.specs.declared.result.Result.{Result}
@@ -8,11 +9,12 @@ use Rattle.std.specs.declared.result.Result.TheVariants.{Ok, Err}
 use Rattle.lists.proofs.One.{one_result, one_call}
 use Rattle.orders.specs.declared.Order.{Order}
 use Rattle.board.specs.declared.Stand.{Stand}
+use Rattle.board.specs.declared.Place.{Place}
 use Rattle.board.specs.declared.Board.{Board}
 use Rattle.board.specs.declared.Refusal.{Refusal}
 use Rattle.board.specs.declared.Refusal.TheVariants.{Unsound, OutOfRange}
 use Rattle.board.specs.declared.Applied.{Applied}
-use Rattle.board.specs.Board.{is_absent, outcome, board_refusal, board_after, number, says}
+use Rattle.board.specs.Board.{is_absent, outcome, board_refusal, board_after, board_in, number, says}
 
 abbrev Answer : Type 0
 Answer = Result (Unit {0}) Refusal
@@ -30,6 +32,12 @@ answer_back (Err OutOfRange) = refl
 pub apply_one : (b : Board) (o : Order) (c d : Board) (r s : Answer)
     → (c ≡ board_after b o) × (says r ≡ board_refusal b o) → (d ≡ board_after b o) × (says s ≡ board_refusal b o) → (c ≡ d) × (r ≡ s)
 apply_one b o = one_call says answer_of answer_back
+
+-- over places in whatever form they are kept: c and d, with so many in use, at exit
+pub apply_in_one : {P : Type 0} (place : P → Place) (b : Board) (o : Order) (c d : List P) (m n : ℕ) (r s : Answer)
+    → (board_in place c m ≡ board_after b o) × (says r ≡ board_refusal b o) → (board_in place d n ≡ board_after b o) × (says s ≡ board_refusal b o)
+    → (board_in place c m ≡ board_in place d n) × (r ≡ s)
+apply_in_one place b o c d m n = apply_one b o (board_in place c m) (board_in place d n)
 
 -- by value
 pub after_order_one : (b : Board) (o : Order) (r s : Applied)

@@ -1,25 +1,25 @@
 -- Where an image stands in a board, and what settling it there makes of the list. Assumes nothing.
-use mathlib.Core.Path.{◌≡◌, refl, sym, ap, ◌∙◌, subst}
+use mathlib.Core.Path.{◌≡◌, refl, sym, ap, ◌∙◌}
 use mathlib.Core.Bool.{true}
-use mathlib.Core.List.{List, [], ◌∷◌, ◌++◌, append-nil}
-use mathlib.Core.Logic.{⊎_elim}
-use Prim.Native.Nat.{ℕ, ◌+◌, ◌≤◌, ◌<◌, zero-le}
+use mathlib.Core.List.{List, [], ◌∷◌, ◌++◌, append-nil, map}
+use Prim.Native.Nat.{ℕ, zero, suc, ◌+◌, ◌≤◌, ◌<◌}
 use native.Mathlib.Omega.{arith}
-use native.Mathlib.Nat.{eq-or-lt_of_le}
-use native.Mathlib.Numerals.{add-one}
 use borrow.Author.Tests.{eq-eqb, ne_eqb, lt-ltb, le-ltb, ltb-true}
 use lib.Dec.{ltb}
-use lib.ListN.{length, take, drop, get_or, take-append-drop}
-use lib.Seq.{append_snoc, take-suc, get_or-take, length-take-le}
+use lib.ListN.{length, take, drop, get_or}
+use Rattle.std.specs.List.Sorted.{IsSearchInRange, IsBinarySearchResult, IsNonDecreasingBy}
+use Rattle.std.specs.Ordering.{nat_cmp, ordering_index}
+use Rattle.std.proofs.Common.{Result, Ok, Err, MatchResult}
+use Rattle.std.proofs.lemmas.Bool.Decides.{nat_tests}
+use Rattle.std.proofs.lemmas.Cmp.{ranked}
 use Rattle.lists.specs.Lists.{rising_from, rising}
 use Rattle.lists.proofs.Bools.{and_left_lem, and_right}
-use Rattle.lists.proofs.Loops.{first_next, first_none}
-use Rattle.lists.proofs.Order.{rising_after}
+use Rattle.lists.proofs.Order.{rising_tail}
 use Rattle.board.specs.declared.Stand.{Stand}
 use Rattle.board.specs.declared.Stand.TheVariants.{Absent}
 use Rattle.board.specs.declared.Place.{Place}
-use Rattle.board.specs.Board.{before, blank, stands, placed, settle}
-use Rattle.board.specs.Inside.{PlaceOf}
+use Rattle.board.specs.Board.{before, stands, placed, settle}
+use Rattle.board.specs.Inside.{StandsAt, WouldStandAt}
 
 -- ---- a list whose first place has a smaller image, that image, or a larger one
 
@@ -50,95 +50,85 @@ none_after image p (q ∷ l) h up =
     let ne : q.image ≡ image → ⊥ = λ e. omega arith in
     simp (ne_eqb _ _ ne) (none_after image q l (omega arith) (and_right (ltb p.image q.image) (rising_from before q l) up))
 
--- ---- the loop that looks for the place: a turn passes a place with a smaller image
+-- ---- in a rising list, in whatever form its places are kept
 
-pub record Sought (l : List Place) (count image at : ℕ) : Type 0 where
-  pub within : at ≤ count
-  pub passed : (stand : Stand) → settle image stand (take count l) ≡ take at (take count l) ++ settle image stand (drop at (take count l))
-  pub looked : stands image (take count l) ≡ stands image (drop at (take count l))
+module _ {P : Type 0} (place : P → Place) where
+  from_below : (p : Place) (l : List P) → rising_from before p (map place l) ≡ true → (j : ℕ) (d : P) → j < length l → p.image < (place (get_or l j d)).image
+  from_below p [] up j d h = let f : ⊥ = omega arith in absurd f
+  from_below p (x ∷ l) up zero d h = ltb-true _ _ (and_left_lem (ltb p.image (place x).image) (rising_from before (place x) (map place l)) up)
+  from_below p (x ∷ l) up (suc j) d h =
+      let first : p.image < (place x).image = ltb-true _ _ (and_left_lem (ltb p.image (place x).image) (rising_from before (place x) (map place l)) up) in
+      let rest = from_below (place x) l (and_right (ltb p.image (place x).image) (rising_from before (place x) (map place l)) up) j d (omega arith) in
+      omega arith
 
-module _ {l : List Place} {count image : ℕ} where
-  pub seek_start : Sought l count image 0
-  seek_start = record { within = zero-le; passed = λ stand. refl; looked = refl }
+  below : (l : List P) → rising before (map place l) ≡ true → (i j : ℕ) (d : P) → i < j → j < length l → (place (get_or l i d)).image < (place (get_or l j d)).image
+  below [] up i j d lt h = let f : ⊥ = omega arith in absurd f
+  below (x ∷ l) up i zero d lt h = let f : ⊥ = omega arith in absurd f
+  below (x ∷ l) up zero (suc j) d lt h = from_below (place x) l up j d (omega arith)
+  below (x ∷ l) up (suc i) (suc j) d lt h = below l (rising_tail before (place x) (map place l) up) i j d (omega arith) (omega arith)
 
-  module _ {at : ℕ} (s : Sought l count image at) where
-    module _ (fits : count ≤ length l) (h : at < count) where
-      abbrev p : Place
-      p = get_or l at blank
+  module _ (image : ℕ) where
+    -- the image stands where a place has it
+    stands_at : (l : List P) (at : ℕ) → rising before (map place l) ≡ true → at < length l → ((d : P) → (place (get_or l at d)).image ≡ image) → StandsAt (map place l) image at
+    stands_at [] at up h has = let f : ⊥ = omega arith in absurd f
+    stands_at (x ∷ l) zero up h has =
+        record {
+          within = omega arith;
+          stood = stands_there image (place x) (map place l) (has x);
+          settled = λ stand. settle_there image (place x) (map place l) stand (has x);
+        }
+    stands_at (x ∷ l) (suc at) up h has =
+        let inner = stands_at l at (rising_tail before (place x) (map place l) up) (omega arith) has in
+        let e = has x in
+        let past = from_below (place x) l up at x (omega arith) in
+        let lt : (place x).image < image = omega arith in
+        let within = inner.within in
+        let one_more : suc (at + 1) ≡ suc at + 1 = omega arith in
+        record {
+          within = omega arith;
+          stood = stands_past image (place x) (map place l) lt ∙ inner.stood;
+          settled = λ stand.
+              settle_past image (place x) (map place l) stand lt
+              ∙ ap (λ (t : List Place). place x ∷ t) (inner.settled stand)
+              ∙ ap (λ (k : ℕ). place x ∷ (take at (map place l) ++ (placed image stand ++ drop k (map place (x ∷ l))))) one_more;
+        }
 
-      next : drop at (take count l) ≡ p ∷ drop (at + 1) (take count l)
-      next = first_next l count fits blank at h
+    -- it would stand between those below it and those above
+    would_stand_at : (l : List P) (at : ℕ) → rising before (map place l) ≡ true → at ≤ length l → ((k : ℕ) (d : P) → k < at → (place (get_or l k d)).image < image)
+        → ((k : ℕ) (d : P) → at ≤ k → k < length l → image < (place (get_or l k d)).image) → WouldStandAt (map place l) image at
+    would_stand_at [] zero up h low high = record { within = h; stood = refl; settled = λ stand. sym (append-nil (placed image stand)) }
+    would_stand_at [] (suc at) up h low high = let f : ⊥ = omega arith in absurd f
+    would_stand_at (x ∷ l) zero up h low high =
+        let lt : image < (place x).image = high 0 x (omega arith) (omega arith) in
+        let ne : (place x).image ≡ image → ⊥ = λ e. omega arith in
+        record {
+          within = omega arith;
+          stood = simp (ne_eqb _ _ ne) (none_after image (place x) (map place l) (omega arith) up);
+          settled = λ stand. settle_before image (place x) (map place l) stand lt;
+        }
+    would_stand_at (x ∷ l) (suc at) up h low high =
+        let lt : (place x).image < image = low 0 x (omega arith) in
+        let inner = would_stand_at l at (rising_tail before (place x) (map place l) up) (omega arith) (λ k d b. low (suc k) d (omega arith))
+        (λ k d a b. high (suc k) d (omega arith) (omega arith)) in
+        let within = inner.within in
+        record {
+          within = omega arith;
+          stood = stands_past image (place x) (map place l) lt ∙ inner.stood;
+          settled = λ stand. settle_past image (place x) (map place l) stand lt ∙ ap (λ (t : List Place). place x ∷ t) (inner.settled stand);
+        }
 
-      front : take (at + 1) (take count l) ≡ take at (take count l) ++ (p ∷ [])
-      front =
-          ap (λ (k : ℕ). take k (take count l)) (add-one at)
-          ∙ take-suc (take count l) at blank (rw (length-take-le count l fits) h)
-          ∙ ap (λ (x : Place). take at (take count l) ++ (x ∷ [])) (get_or-take count l at blank h)
+    module _ (l : List P) (up : rising before (map place l) ≡ true) where
+      -- the comparisons with the image rise along the list, as a binary search asks
+      comparisons_rise : IsNonDecreasingBy (λ p. ordering_index (nat_cmp (place p).image image)) l
+      comparisons_rise i j d le h =
+          let apart : i < j → (place (get_or l i d)).image < (place (get_or l j d)).image = λ lt. below l up i j d lt h in
+          let same : i ≡ j → (place (get_or l i d)).image ≡ (place (get_or l j d)).image = λ e. ap (λ (k : ℕ). (place (get_or l k d)).image) e in
+          let at_most : (place (get_or l i d)).image ≤ (place (get_or l j d)).image = grind (arith, apart, same) in
+          grind (arith, nat_tests)
 
-      pub seek_turn : p.image < image → Sought l count image (at + 1)
-      seek_turn lt =
-          record {
-            within = omega arith;
-            passed = λ stand.
-                s.passed stand
-                ∙ ap (λ (t : List Place). take at (take count l) ++ settle image stand t) next
-                ∙ ap (λ (t : List Place). take at (take count l) ++ t) (settle_past image p (drop (at + 1) (take count l)) stand lt)
-                ∙ sym (append_snoc (take at (take count l)) p (settle image stand (drop (at + 1) (take count l))))
-                ∙ ap (λ (t : List Place). t ++ settle image stand (drop (at + 1) (take count l))) (sym front);
-            looked = s.looked ∙ ap (stands image) next ∙ stands_past image p (drop (at + 1) (take count l)) lt;
-          }
-
-    -- it ends at a place with no smaller image, or behind them all
-    pub seek_end : (at < count → image ≤ (get_or l at blank).image) → PlaceOf l count image at
-    seek_end met = record { within = s.within; passed = s.passed; looked = s.looked; met = met }
-
--- ---- at the place that was found
-
-module _ {l : List Place} {count image at : ℕ} (at_place : PlaceOf l count image at) (fits : count ≤ length l) where
-  -- the image stands there
-  pub stands_here : at < count → (get_or l at blank).image ≡ image → (get_or l at blank).stand ≡ stands image (take count l)
-  stands_here h e =
-      sym (at_place.looked ∙ ap (stands image) (first_next l count fits blank at h) ∙ stands_there image (get_or l at blank) (drop (at + 1) (take count l)) e)
-
-  -- or it is absent: another, larger one stands there
-  pub absent_here : rising before (take count l) ≡ true → at < count → ((get_or l at blank).image ≡ image → ⊥) → Absent ≡ stands image (take count l)
-  absent_here up h ne =
-      let q : Place = get_or l at blank in
-      let larger : image < q.image = let low = at_place.met h in omega arith in
-      let next : drop at (take count l) ≡ q ∷ drop (at + 1) (take count l) = first_next l count fits blank at h in
-      let whole : take count l ≡ take at (take count l) ++ (q ∷ drop (at + 1) (take count l)) = sym (take-append-drop at (take count l)) ∙ ap (λ (t : List Place). take at (take count l) ++ t) next in
-      let from = rising_after before (take at (take count l)) q (drop (at + 1) (take count l)) (subst (λ (t : List Place). rising before t ≡ true) whole up) in
-      sym (at_place.looked ∙ ap (stands image) next ∙ (simp (ne_eqb _ _ ne) (none_after image q (drop (at + 1) (take count l)) (omega arith) from)))
-
-  -- or no place is left
-  pub absent_last : count ≤ at → Absent ≡ stands image (take count l)
-  absent_last h = sym (at_place.looked ∙ ap (stands image) (first_none l count fits at h))
-
-  -- settled where the image stands
-  pub settle_here : at < count → (get_or l at blank).image ≡ image → (stand : Stand)
-      → settle image stand (take count l) ≡ take at (take count l) ++ (placed image stand ++ drop (at + 1) (take count l))
-  settle_here h e stand =
-      at_place.passed stand
-      ∙ ap (λ (t : List Place). take at (take count l) ++ settle image stand t) (first_next l count fits blank at h)
-      ∙ ap (λ (t : List Place). take at (take count l) ++ t) (settle_there image (get_or l at blank) (drop (at + 1) (take count l)) stand e)
-
-  -- settled where it would stand
-  pub settle_new : (at < count → (get_or l at blank).image ≡ image → ⊥) → (stand : Stand)
-      → settle image stand (take count l) ≡ take at (take count l) ++ (placed image stand ++ drop at (take count l))
-  settle_new ne stand = at_place.passed stand ∙ ap (λ (t : List Place). take at (take count l) ++ t) (⊎_elim last here (eq-or-lt_of_le at_place.within))
-    where
-      last : at ≡ count → settle image stand (drop at (take count l)) ≡ placed image stand ++ drop at (take count l)
-      last e =
-          let le : count ≤ at = omega arith in
-          let none : drop at (take count l) ≡ [] = first_none l count fits at le in
-          ap (settle image stand) none ∙ sym (append-nil (placed image stand)) ∙ ap (λ (t : List Place). placed image stand ++ t) (sym none)
-
-      here : at < count → settle image stand (drop at (take count l)) ≡ placed image stand ++ drop at (take count l)
-      here h =
-          let next = first_next l count fits blank at h in
-          let apart = ne h in
-          let low = at_place.met h in
-          let larger : image < (get_or l at blank).image = omega arith in
-          ap (settle image stand) next
-          ∙ settle_before image (get_or l at blank) (drop (at + 1) (take count l)) stand larger
-          ∙ ap (λ (t : List Place). placed image stand ++ t) (sym next)
+      pub searched : (r : Result ℕ ℕ) → IsSearchInRange r (length l) → IsBinarySearchResult (λ p. nat_cmp (place p).image image) l r
+          → MatchResult r (StandsAt (map place l) image) (WouldStandAt (map place l) image)
+      searched (Ok at) within has = stands_at l at up within (λ d. ranked _ image _ (sym (has d)))
+      searched (Err at) within parted =
+          let cut = parted comparisons_rise in
+          would_stand_at l at up within (λ k d h. ranked _ image _ (sym (cut.0 k d (omega arith) h))) (λ k d a h. ranked _ image _ (sym (cut.1 k d a h)))

@@ -1,5 +1,5 @@
 -- The board (01, "The board"). Assumes nothing.
-use Rattle.std.specs.Prelude.{Bool, true, false, not, cond, ◌&&◌, List, [], ◌∷◌, ◌++◌, ℕ, leb, ltb, eqb, length, take, drop, Result, Ok, Err}
+use Rattle.std.specs.Prelude.{◌≡◌, Bool, true, false, not, cond, ◌&&◌, List, [], ◌∷◌, ◌++◌, ℕ, leb, ltb, eqb, length, take, drop, map, Result, Ok, Err}
 use Rattle.lists.specs.Tests.{all_of, first_of}
 use Rattle.lists.specs.Lists.{all, rising, pad}
 use Rattle.orders.specs.declared.Order.{Order}
@@ -45,6 +45,14 @@ before p q = ltb p.image q.image
 unfoldable pub sound : Board → Bool
 sound b =
     all_of (leb b.count 16 ∷ all place_fits (images b) ∷ rising before (images b) ∷ all is_blank (drop b.count b.places) ∷ [])
+
+-- the board of these places, each standing for one
+abbrev pub board_in : {P : Type 0} → (P → Place) → List P → ℕ → Board
+board_in place places count = record { count = count; places = map place places }
+
+-- a stand that a place of a sound board can have
+abbrev pub Placeable : Stand → Type 0
+Placeable stand = is_absent stand ≡ false → stand_fits stand ≡ true
 
 -- ---- "What each order does in each state is one fixed table"
 

@@ -1,12 +1,12 @@
 -- Notions that only private contracts cite. Assumes nothing.
-use Rattle.std.specs.Prelude.{◌≡◌, true, cond, List, ◌++◌, ℕ, ◌≤◌, ◌<◌, eqb, take, drop, get_or}
+use Rattle.std.specs.Prelude.{◌≡◌, true, cond, List, ◌++◌, ℕ, ◌≤◌, ◌<◌, eqb, ◌+◌, length, take, drop, get_or}
 use Rattle.lists.specs.Lists.{all, rising}
 use Rattle.board.specs.declared.Stand.{Stand}
 use Rattle.board.specs.declared.Stand.TheVariants.{Absent, Offered, Halted}
 use Rattle.board.specs.declared.Place.{Place}
 use Rattle.board.specs.declared.table.Effect.{Effect}
 use Rattle.board.specs.declared.table.Effect.TheVariants.{Keeps, Offers, Halts, Resumes, Removes}
-use Rattle.board.specs.Board.{place_fits, before, is_blank, blank, stands, settle}
+use Rattle.board.specs.Board.{place_fits, before, is_blank, blank, stands, placed, settle}
 
 -- a sound board of these places, of which the first are in use
 pub record Sound (places : List Place) (count : ℕ) : Type 0 where
@@ -15,18 +15,17 @@ pub record Sound (places : List Place) (count : ℕ) : Type 0 where
   pub up : rising before (take count places) ≡ true
   pub rest : all is_blank (drop count places) ≡ true
 
--- `at` is where an image stands, or would stand, among the images of a list: those before it have a smaller one, and it has none smaller
-pub record PlaceOf (places : List Place) (count image at : ℕ) : Type 0 where
-  pub within : at ≤ count
-  pub passed : (stand : Stand) → settle image stand (take count places) ≡ take at (take count places) ++ settle image stand (drop at (take count places))
-  pub looked : stands image (take count places) ≡ stands image (drop at (take count places))
-  pub met : at < count → image ≤ (get_or places at blank).image
+-- where an image stands among these
+pub record StandsAt (l : List Place) (image at : ℕ) : Type 0 where
+  pub within : at < length l
+  pub stood : stands image l ≡ (get_or l at blank).stand
+  pub settled : (stand : Stand) → settle image stand l ≡ take at l ++ (placed image stand ++ drop (at + 1) l)
 
--- what a change of one image needs to know: the board is sound, the place is the image's, and so it stood
-pub record Known (places : List Place) (count image at : ℕ) (old : Stand) : Type 0 where
-  pub whole : Sound places count
-  pub place : PlaceOf places count image at
-  pub stood : old ≡ stands image (take count places)
+-- where it would stand: it is absent
+pub record WouldStandAt (l : List Place) (image at : ℕ) : Type 0 where
+  pub within : at ≤ length l
+  pub stood : stands image l ≡ Absent
+  pub settled : (stand : Stand) → settle image stand l ≡ take at l ++ (placed image stand ++ drop at l)
 
 -- ---- the effects of the table: with the order's share, with the old share, and offered with the old share or absent where that is 0
 

@@ -2,19 +2,18 @@
 #![tactic(auto)]
 
 mod lent;
+mod placed;
 mod places;
 mod sound;
 mod table;
 
 ghost use Rattle.std.specs.Prelude.{◌≡◌};
-ghost use Rattle.board.specs.Board.{says, board_refusal, board_after, holding, images, images_after};
-ghost use Rattle.board.specs.Inside.{Sound};
+ghost use Rattle.board.specs.Board.{says, board_refusal, board_after};
 
-pub use lent::apply;
+pub use lent::{apply, apply_in};
 use orders::Order;
-use places::{here, made, place_of};
+pub use placed::Placed;
 pub use sound::absent;
-use sound::is_sound;
 pub use table::outcome_of;
 
 // What a board says of an image; the number is its share.
@@ -31,7 +30,8 @@ pub struct Place {
     pub stand: Stand,
 }
 
-// The first `count` places are in use, in rising image; the others are all zero.
+// The first `count` places are in use, in rising image; the others are all zero. The type has no invariant, as its fields are public and
+// a board of any numbers is taken: one that is not sound is refused 9.
 #[derive(Clone, Copy)]
 pub struct Board {
     pub count: usize,
@@ -66,39 +66,9 @@ pub struct Applied {
 }
 
 // What an order makes of a board; refused 9 or 23, in that order, and then the board as it was.
-pub fn after_order(board: Board, order: Order) -> Applied
+pub fn after_order(mut board: Board, order: Order) -> Applied
     ensures { (result.board ≡ board_after board order) × (says result.answer ≡ board_refusal board order) }
 {
-    if !is_sound(board) {
-        return Applied {
-            board,
-            answer: Err(Refusal::Unsound),
-        };
-    }
-    if !orders::share_fits(order) {
-        return Applied {
-            board,
-            answer: Err(Refusal::OutOfRange),
-        };
-    }
-    Applied {
-        board: after(board, order),
-        answer: Ok(()),
-    }
-}
-
-fn after(board: Board, order: Order) -> Board
-    requires { Sound board.places board.count }
-    ensures { result ≡ holding (images_after order (images board)) }
-{
-    let image = orders::image(order);
-    let places = board.places;
-    let count = board.count;
-    let at = place_of(places, count, image);
-    let old = here(places, count, at, image);
-    let p = Place {
-        image,
-        stand: outcome_of(order, old),
-    };
-    made(places, count, at, p, old)
+    let answer = apply(&mut board, order);
+    Applied { board, answer }
 }

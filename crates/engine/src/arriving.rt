@@ -11,7 +11,8 @@ use clock::Tick;
 use host::{Refusal, Sent};
 use schedule::Schedule;
 
-// The copy at place c is handed to host q.
+// The copy at place c is handed to host q. Few places have one at a tick, so the loop over them all calls it.
+#[inline(never)]
 pub(crate) fn hand(
     s: &Schedule,
     t: Tick,
@@ -44,5 +45,5 @@ pub(crate) fn receiver_of(s: &Schedule, c: usize) -> u8
 pub(crate) fn is_now(arrival: Tick, t: Tick) -> bool
     ensures { result ≡ (ltb 0 t.0 && eqb arrival.0 t.0) }
 {
-    (0 < t.0) & (arrival.0 == t.0)
+    0 < t.0 && arrival == t
 }

@@ -1,4 +1,5 @@
-// At each tick all hosts tick, then copies arrive, then orders are started.
+// At each tick all hosts tick, then copies arrive, then orders are started. The schedule and the tick are passed side by side: with a struct of both, clauses would
+// say `now.schedule.now` for `s.now`.
 ghost use Rattle.std.specs.Prelude.{◌≡◌, [], get_or};
 ghost use Rattle.lists.specs.Lists.{listed};
 ghost use Rattle.engine.specs.Parts.{no_station};

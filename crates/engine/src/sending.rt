@@ -11,7 +11,8 @@ use host::{Refusal, Sent};
 use network::{Link, Plan, is_in};
 use schedule::Schedule;
 
-// The copies of start k that host p sends at a tick, on the links that its host answered.
+// The copies of start k that host p sends at a tick, on the links that its host answered. Called as seldom as `hand`.
+#[inline(never)]
 pub(crate) fn send_all(
     s: &Schedule,
     t: Tick,

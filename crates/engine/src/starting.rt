@@ -28,7 +28,7 @@ pub(crate) fn tell(
 pub(crate) fn is_now(start: Start, t: Tick) -> bool
     ensures { result ≡ eqb start.tick.0 t.0 }
 {
-    start.tick.0 == t.0
+    start.tick == t
 }
 
 // The number of a refusal, and 0 for none.

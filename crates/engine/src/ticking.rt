@@ -37,7 +37,7 @@ pub(crate) fn tick_one(station: &mut Station, u: Reading)
     }
 }
 
-// The log with the first so many of a history more, delivered at a reading.
+// The log with the first so many of a history more, delivered at a reading. By index, since the front of an array of structs loses its length.
 fn more(log: Log, history: [Held; 32], count: usize, u: Reading) -> Log
     requires { (log ≡ log_of (list_of log)) × (log.count + count ≤ 16) }
     ensures { result ≡ log_of (list_of log ++ map (delivery u) (take count history)) }

@@ -59,7 +59,7 @@ fn clear(plan: Plan) -> Plan
 {
     let links = plan.links;
     Plan {
-        links: first_links(links, plan.link_count as usize),
+        links: first_links(links, usize::from(plan.link_count)),
         ..plan
     }
 }

@@ -92,7 +92,7 @@ fn is_fit_copy(rules: u8, hop: u8, copy: Held) -> bool
 fn is_early(rules: u8, plan: Plan, u: Reading, hop: u8, stamp: Reading) -> bool
     ensures { result ≡ early rules plan u.0 hop stamp.0 }
 {
-    (rules == 2) & is_ahead(u, (hop as u64) * (plan.skew as u64), stamp)
+    (rules == 2) & is_ahead(u, u64::from(hop) * u64::from(plan.skew), stamp)
 }
 
 // Whether U + span ≤ T, by the sum: T less the span would go below 0 at a small stamp.
@@ -108,7 +108,7 @@ fn is_late(rules: u8, plan: Plan, u: Reading, hop: u8, stamp: Reading) -> bool
     (rules == 2)
         & reached(
             stamp,
-            (hop as u64) * ((plan.delay as u64) + (plan.skew as u64)),
+            u64::from(hop) * (u64::from(plan.delay) + u64::from(plan.skew)),
             u,
         )
 }

@@ -59,6 +59,6 @@ pub fn is_framed(frame: Frame) -> bool
         & starts_passed(starts, started, frame.last)
         & is_rules(frame.rules)
         & (frame.own < plan.hosts)
-        & links_unused(links, plan.link_count as usize)
+        & links_unused(links, usize::from(plan.link_count))
         & starts_unused(starts, started)
 }

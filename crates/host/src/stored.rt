@@ -1,11 +1,12 @@
 // An order held under its name, in the form in which a history stores it: a host's own, or a service's flat memory.
 ghost use Rattle.std.specs.Prelude.{◌≡◌, eqb};
+ghost use Rattle.orders.specs.Orders.{same_order};
+ghost use Rattle.orders.specs.declared.Order.TheVariants.{Publish};
 ghost use Rattle.host.specs.State.{fits, is_no_held, no_held};
 
 use crate::Held;
-use crate::unused::is_no_held;
 use clock::{Reading, is_stamp};
-use orders::share_fits;
+use orders::{Order, share_fits};
 
 pub trait Stored: Copy {
     ghost use Rattle.host.specs.declared.Held.{Held};
@@ -50,6 +51,16 @@ impl Stored for Held {
     }
 
     fn bits(self) -> u64 {
-        u64::from(!is_no_held(self))
+        self.stamp.0 | u64::from(self.source) | order_bits(self.order)
+    }
+}
+
+// 0 of the blank order alone.
+fn order_bits(order: Order) -> u64
+    ensures { eqb result 0 ≡ same_order order (Publish 0 0) }
+{
+    match order {
+        Order::Publish { image, share } => u64::from(image) | u64::from(share),
+        _ => 1,
     }
 }

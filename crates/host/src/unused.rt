@@ -1,7 +1,7 @@
 // Unused places: what they hold, and whether they hold it.
 ghost use Rattle.std.specs.Prelude.{◌≡◌, drop};
 ghost use Rattle.lists.specs.Lists.{all};
-ghost use Rattle.host.specs.State.{no_held, is_no_link, is_no_reading, is_no_held};
+ghost use Rattle.host.specs.State.{no_held, is_no_link, is_no_reading};
 
 use crate::Held;
 use clock::Reading;
@@ -39,11 +39,4 @@ fn is_no_reading(s: Reading) -> bool
     ensures { result ≡ is_no_reading s }
 {
     s == Reading(0)
-}
-
-pub(crate) fn is_no_held(e: Held) -> bool
-    ensures { result ≡ is_no_held e }
-{
-    // == of NO_HELD was tried, and is slower.
-    (e.stamp.0 == 0) & (e.source == 0) & matches!(e.order, Order::Publish { image: 0, share: 0 })
 }

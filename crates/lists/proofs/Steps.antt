@@ -1,13 +1,13 @@
 -- The loop that walks a list, whatever its elements are: each is fit, and stands after the one before it, if there is one. What is left to walk still
 -- decides, so a test that fails there fails of the whole. Assumes nothing.
-use mathlib.Core.Path.{◌≡◌, refl, sym, ◌∙◌}
+use mathlib.Core.Path.{◌≡◌, sym, ◌∙◌}
 use mathlib.Core.Bool.{Bool, true, false, ◌&&◌}
 use mathlib.Core.List.{List, [], ◌∷◌}
 use Rattle.std.proofs.Common.{Option, None, Some}
-use Prim.Native.Nat.{ℕ, ◌+◌, ◌≤◌, ◌<◌}
-use lib.ListN.{length, drop, get_or}
+use Prim.Native.Nat.{ℕ, ◌+◌, ◌≤◌}
+use lib.ListN.{length, drop}
 use Rattle.lists.specs.Lists.{all, rising, rising_from, follows}
-use Rattle.lists.proofs.Loops.{left_next, left_none, all_turn, all_end}
+use Rattle.lists.proofs.Loops.{left_none, all_turn, all_end}
 
 module _ {A : Type 0} (r : A → A → Bool) where
   -- what is left rises after the element before it

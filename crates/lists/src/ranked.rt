@@ -20,6 +20,7 @@ pub fn insert<T: Ranked + Copy>(entries: &mut [T], used: usize, x: T)
         return;
     }
     let at = place_of(&entries[..used], x);
+    // Tried by `open_at`, and slower where x comes last.
     entries.copy_within(at..used, at + 1);
     entries[at] = x;
 }

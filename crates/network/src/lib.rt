@@ -61,10 +61,10 @@ pub struct Bounds {
     pub second: Timing,
 }
 
-// Why a plan is refused, in the order of check.
+// Why a plan is refused, under the build paper's number, in the order of check.
 #[derive(Clone, Copy, Debug, PartialEq, Eq)]
 pub enum PlanRefusal {
-    OutOfRange,
-    BadLink,
-    Parted,
+    OutOfRange = 1, // a plan number is out of range
+    BadLink = 2, // a link end is n or more, a ≥ b, or a pair repeats
+    Parted = 3, // some fault set leaves survivors not connected
 }

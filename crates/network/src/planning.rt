@@ -42,11 +42,7 @@ impl From<PlanRefusal> for u8 {
     ghost from_gives = { λ refusal r. r ≡ number refusal };
 
     fn from(refusal: PlanRefusal) -> u8 {
-        match refusal {
-            PlanRefusal::OutOfRange => 1,
-            PlanRefusal::BadLink => 2,
-            PlanRefusal::Parted => 3,
-        }
+        refusal as u8
     }
 }
 

@@ -11,7 +11,7 @@ pub fn is_proper(p: Plan) -> bool
     in_range(p) && !has_bad_link(p)
 }
 
-// Whether every number of the plan is in its range.
+// Whether every number of the plan is in its range. By `(2..=8).contains(&p.hosts)` it would be no plainer, for the definition lists ten tests.
 pub(crate) fn in_range(p: Plan) -> bool
     ensures { result ≡ in_range p }
 {

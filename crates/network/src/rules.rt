@@ -4,7 +4,7 @@ ghost use Rattle.network.specs.Network as net;
 
 use crate::Plan;
 
-// Δ of a rule set for a network of largest diameter d.
+// Δ of a rule set for a network of largest diameter d. The rule set stays a number, for its definition `bound` takes every number.
 pub fn bound(rules: u8, p: Plan, d: u8) -> u64
     ensures { result ≡ net.bound rules p d }
 {

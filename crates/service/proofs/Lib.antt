@@ -1,16 +1,13 @@
 -- What the proofs of several functions use, and the laws for callers: Back, Through, One.
 mod Zeros
 mod Forms
-mod Converts
-mod Lefts
+mod Shifts
 pub mod Back
 mod Ticks
 mod Standing
 mod Settled
 mod Prefixes
 mod Flats
-mod Gathers
-mod Owns
 mod Sounds
 mod Sizes
 pub mod Through

@@ -1,49 +1,42 @@
-// An order on a board's flat memory, by value: the walk of its 16 places, and its images changed where they stand.
-ghost use Rattle.std.specs.Prelude.{◌≡◌, true, [], ◌∷◌, map, leb, take, drop};
-ghost use Rattle.lists.specs.Tests.{all_of};
-ghost use Rattle.lists.specs.Lists.{all, rising};
+// An order on a board's flat memory, in place: the walk of its 16 places, and its images changed where they stand.
+ghost use Rattle.std.specs.Prelude.{◌≡◌, true, map};
 ghost use Rattle.orders.specs.Orders.{share_fits};
-ghost use Rattle.board.specs.Board.{holding, images_after, board_refusal};
+ghost use Rattle.board.specs.Board.{says, holding, images, images_after, board_refusal, sound};
 ghost use Rattle.board.specs.Inside.{Sound};
-ghost use Rattle.service.specs.Memory.{order_from, place_from, board_from};
+ghost use Rattle.service.specs.Memory.{place_from, board_from};
 ghost use Rattle.service.specs.Calls.{order_left};
-ghost use Rattle.service.specs.Inside.{place_fits_in, in_front, blank_in};
 
-use crate::images::{here, made, place_of};
-use crate::orders_in::order_from;
+use crate::BoardMemory;
+use crate::images::{here, place_of, settle};
 use crate::stands::{is_blank, is_fit};
-use crate::{BoardLeft, BoardMemory, PlaceMemory};
+use board::Refusal;
 use orders::Order;
 
-pub(crate) fn left_by_order(memory: BoardMemory, kind: u8, image: u32, share: u16) -> BoardLeft
-    ensures { (result.memory ≡ order_left memory (order_from kind image share)) × (result.answer ≡ board_refusal (board_from memory) (order_from kind image share)) }
+// Refused, the memory is as it was.
+pub(crate) fn apply(memory: &mut BoardMemory, order: Order) -> Result<(), Refusal>
+    ensures { (memory.new ≡ order_left memory.old order) × (says result ≡ board_refusal (board_from memory.old) order) }
 {
-    let places = memory.places;
-    let count = memory.count;
-    if !is_board(places, count) {
-        return BoardLeft { memory, answer: 9 };
+    if !is_board(memory) {
+        return Err(Refusal::Unsound);
     }
-    let order = order_from(kind, image, share);
     if !orders::share_fits(order) {
-        return BoardLeft { memory, answer: 23 };
+        return Err(Refusal::OutOfRange);
     }
-    BoardLeft {
-        memory: after(places, count, order),
-        answer: 0,
-    }
+    alter(memory, order);
+    Ok(())
 }
 
 // Whether flat places are a sound board: at most 16 in use, each fit, rising; and the unused ones zero.
-fn is_board(places: [PlaceMemory; 16], count: usize) -> bool
-    ensures { result ≡ all_of (leb count 16 ∷ all place_fits_in (take count places) ∷ rising in_front (take count places) ∷ all blank_in (drop count places) ∷ []) }
+fn is_board(memory: &BoardMemory) -> bool
+    ensures { result ≡ sound (board_from memory.now) }
 {
+    let count = memory.count;
     if count > 16 {
         return false;
     }
+    let places = &memory.places;
     let mut last = places[0];
-    let mut i: usize = 0;
-    while i < count {
-        let p = places[i];
+    for (i, &p) in places[..count].iter().enumerate() {
         if !is_fit(p) {
             return false;
         }
@@ -51,25 +44,18 @@ fn is_board(places: [PlaceMemory; 16], count: usize) -> bool
             return false;
         }
         last = p;
-        i += 1;
     }
-    while i < 16 {
-        if !is_blank(places[i]) {
-            return false;
-        }
-        i += 1;
-    }
-    true
+    places[count..].iter().all(|p| is_blank(*p))
 }
 
-fn after(places: [PlaceMemory; 16], count: usize, order: Order) -> BoardMemory
-    requires sound { Sound (map place_from places) count }
+fn alter(memory: &mut BoardMemory, order: Order)
+    requires sound { Sound (map place_from memory.old.places) memory.old.count }
     requires order_value { share_fits order ≡ true }
-    ensures { board_from result ≡ holding (images_after order (take count (map place_from places))) }
+    ensures { board_from memory.new ≡ holding (images_after order (images (board_from memory.old))) }
 {
     let image = orders::image(order);
-    let at = place_of(places, count, image);
-    let old = here(places, count, at, image);
+    let at = place_of(memory, image);
+    let old = here(memory, at, image);
     let new = board::outcome_of(order, old);
-    made(places, count, at, image, old, new)
+    settle(memory, at, image, old, new);
 }

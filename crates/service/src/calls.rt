@@ -1,92 +1,75 @@
-// The calls of a host on its flat memory, by value: what each leaves, and what it answers.
-ghost use Rattle.std.specs.Prelude.{◌≡◌};
+// The calls of a host on its flat memory, in place: refused, the memory is as it was.
+ghost use Rattle.std.specs.Prelude.{◌≡◌, length};
+ghost use Rattle.host.specs.Answers.{refusal_of, says, says_tick};
 ghost use Rattle.host.specs.Make.{make_refusal};
 ghost use Rattle.host.specs.Start.{start_says};
 ghost use Rattle.host.specs.Receive.{receive_says};
-ghost use Rattle.host.specs.Calls.{start, receive};
-ghost use Rattle.service.specs.Memory.{order_from, copy_from, host_from};
-ghost use Rattle.service.specs.Calls.{call_left, send_number, make_left};
+ghost use Rattle.host.specs.Tick.{tick_says, tick_list};
+ghost use Rattle.host.specs.Calls.{start, receive, ticks};
+ghost use Rattle.service.specs.Memory.{host_from};
+ghost use Rattle.service.specs.Calls.{call_left, make_left};
 
-use crate::afters::{after_copy, after_start};
-use crate::answers::{to_copy, to_start};
-use crate::memory::host_memory;
-use crate::orders_in::order_from;
-use crate::{HostLeft, HostMemory};
+use crate::HostMemory;
+use crate::answers::{receive_answer, start_answer, tick_answer};
+use crate::changes::{drop_due, hold, write_due};
+use crate::memory::own_from;
 use clock::Reading;
-use host::{Held, Verdict, number_of};
+use host::{Held, Refusal, Sent, one_more, with_start};
+use orders::Order;
 
 // A fresh host of the plan that stands in the memory.
-pub(crate) fn left_by_make(memory: HostMemory, rules: u8, own: u8) -> HostLeft
-    ensures { (result.memory ≡ make_left memory rules own) × (result.answer ≡ make_refusal memory.plan rules own) }
+pub(crate) fn make(memory: &mut HostMemory, rules: u8, own: u8) -> Result<(), Refusal>
+    ensures { (memory.new ≡ make_left memory.old rules own) × (refusal_of result ≡ make_refusal memory.old.plan rules own) }
 {
-    let plan = memory.plan;
-    let made = host::make(plan, rules, own);
-    let answer = made.answer;
-    match answer {
-        Verdict::Refused(refusal) => HostLeft {
-            memory,
-            answer: number_of(refusal) as u64,
+    let host = host::make(memory.plan, rules, own)?;
+    *memory = HostMemory::from(host);
+    Ok(())
+}
+
+pub(crate) fn start(memory: &mut HostMemory, u: Reading, order: Order) -> Result<Sent, Refusal>
+    ensures { (memory.new ≡ call_left memory.old u (start order)) × (says result ≡ start_says (host_from memory.old) u.0 order) }
+{
+    let sent = start_answer(memory, u, order)?;
+    let source = own_from(memory.own);
+    memory.last = u;
+    memory.starts = with_start(memory.starts, memory.started, u);
+    memory.started = one_more(memory.started);
+    hold(
+        memory,
+        Held {
+            stamp: u,
+            source,
+            order,
         },
-        Verdict::Clear => {
-            let host = made.host;
-            HostLeft {
-                memory: host_memory(host),
-                answer: 0,
-            }
-        }
-    }
+    );
+    Ok(sent)
 }
 
-pub(crate) fn left_by_start(
-    memory: HostMemory,
-    u: u64,
-    kind: u8,
-    image: u32,
-    share: u16,
-) -> HostLeft
-    ensures { (result.memory ≡ call_left memory (record { 0 = u }) (start (order_from kind image share))) × (result.answer ≡ send_number (start_says (host_from memory) u (order_from kind image share))) }
-{
-    let answered = to_start(memory, u, kind, image, share);
-    if !answered.accepted {
-        return HostLeft {
-            memory,
-            answer: answered.number,
-        };
-    }
-    let order = order_from(kind, image, share);
-    HostLeft {
-        memory: after_start(memory, Reading(u), order),
-        answer: answered.number,
-    }
-}
-
-pub(crate) fn left_by_receive(
-    memory: HostMemory,
-    u: u64,
+pub(crate) fn receive(
+    memory: &mut HostMemory,
+    u: Reading,
     link: u8,
     hop: u8,
-    stamp: u64,
-    source: u8,
-    kind: u8,
-    image: u32,
-    share: u16,
-) -> HostLeft
-    ensures { (result.memory ≡ call_left memory (record { 0 = u }) (receive link hop (copy_from stamp source kind image share))) × (result.answer ≡ send_number (receive_says (host_from memory) u link hop (copy_from stamp source kind image share))) }
+    copy: Held,
+) -> Result<Sent, Refusal>
+    ensures { (memory.new ≡ call_left memory.old u (receive link hop copy)) × (says result ≡ receive_says (host_from memory.old) u.0 link hop copy) }
 {
-    let copy = Held {
-        stamp: Reading(stamp),
-        source,
-        order: order_from(kind, image, share),
-    };
-    let answered = to_copy(memory, u, link, hop, copy);
-    if !answered.accepted {
-        return HostLeft {
-            memory,
-            answer: answered.number,
-        };
+    let sent = receive_answer(memory, u, link, hop, copy)?;
+    memory.last = u;
+    hold(memory, copy);
+    Ok(sent)
+}
+
+// The entries of those that are due are written to the lent list. Of most ticks none is.
+pub(crate) fn tick(memory: &mut HostMemory, u: Reading, out: &mut [u8]) -> Result<usize, Refusal>
+    ensures { (memory.new ≡ call_left memory.old u (ticks (length out.old))) × ((says_tick result ≡ tick_says (host_from memory.old) u.0 (length out.old)) × (out.new ≡ tick_list (host_from memory.old) u.0 out.old)) }
+{
+    let count = tick_answer(memory, u, out.len())?;
+    memory.last = u;
+    if count == 0 {
+        return Ok(count);
     }
-    HostLeft {
-        memory: after_copy(memory, Reading(u), link, hop, copy),
-        answer: answered.number,
-    }
+    write_due(&memory.history[..count], out);
+    drop_due(memory, count);
+    Ok(count)
 }

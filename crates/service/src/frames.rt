@@ -7,21 +7,18 @@ use crate::HostMemory;
 use crate::memory::own_from;
 use host::Frame;
 
-pub(crate) fn frame_from(memory: HostMemory) -> Frame
-    ensures { result ≡ frame_of (host_from memory) }
+pub(crate) fn frame_from(memory: &HostMemory) -> Frame
+    ensures { result ≡ frame_of (host_from memory.now) }
 {
-    let plan = memory.plan;
-    let last = memory.last;
-    let starts = memory.starts;
     Frame {
-        plan,
+        plan: memory.plan,
         rules: memory.rules,
         d: memory.d,
         bound: memory.bound,
         own: own_from(memory.own),
-        last,
+        last: memory.last,
         started: memory.started,
-        starts,
+        starts: memory.starts,
         held: memory.held,
     }
 }

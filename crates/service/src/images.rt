@@ -1,4 +1,4 @@
-// The images of a board's flat memory: where one stands, and the board with one standing otherwise, put in or taken out.
+// The images of a board's flat memory: where one stands, and one made to stand otherwise, put in or taken out.
 ghost use Rattle.std.specs.Prelude.{◌≡◌, true, false, ◌∷◌, ◌++◌, map, ◌≤◌, ◌<◌, ◌+◌, take, drop};
 ghost use Rattle.lists.specs.Lists.{rising};
 ghost use Rattle.board.specs.Board.{is_absent, stand_fits, before, stands, settle, unless_full, holding};
@@ -6,33 +6,31 @@ ghost use Rattle.board.specs.Inside.{Sound, PlaceOf, Known};
 ghost use Rattle.service.specs.Memory.{place_from, board_from};
 
 use crate::stands::{place_memory, stand_from};
-use crate::{BoardMemory, PlaceMemory};
+use crate::{BoardMemory, NO_PLACE, PlaceMemory};
 use board::{Stand, absent};
 
 // Where an image stands, or would stand.
-pub(crate) fn place_of(places: [PlaceMemory; 16], count: usize, image: u32) -> usize
-    requires { count ≤ 16 }
-    ensures { PlaceOf (map place_from places) count image result }
+pub(crate) fn place_of(memory: &BoardMemory, image: u32) -> usize
+    requires { memory.now.count ≤ 16 }
+    ensures { PlaceOf (map place_from memory.now.places) memory.now.count image result }
 {
-    let mut i: usize = 0;
-    while i < count {
-        let p = places[i];
+    let count = memory.count;
+    for (i, p) in memory.places[..count].iter().enumerate() {
         if p.image >= image {
             return i;
         }
-        i += 1;
     }
-    i
+    count
 }
 
 // How the image stands, if that is its place.
-pub(crate) fn here(places: [PlaceMemory; 16], count: usize, at: usize, image: u32) -> Stand
-    requires count_bound { (count ≤ 16) × (rising before (take count (map place_from places)) ≡ true) }
-    requires place_of { PlaceOf (map place_from places) count image at }
-    ensures { result ≡ stands image (take count (map place_from places)) }
+pub(crate) fn here(memory: &BoardMemory, at: usize, image: u32) -> Stand
+    requires count_bound { (memory.now.count ≤ 16) × (rising before (take memory.now.count (map place_from memory.now.places)) ≡ true) }
+    requires place_of { PlaceOf (map place_from memory.now.places) memory.now.count image at }
+    ensures { result ≡ stands image (take memory.now.count (map place_from memory.now.places)) }
 {
-    if at < count {
-        let p = places[at];
+    if at < memory.count {
+        let p = memory.places[at];
         if p.image == image {
             return stand_from(p.stand, p.share);
         }
@@ -40,85 +38,52 @@ pub(crate) fn here(places: [PlaceMemory; 16], count: usize, at: usize, image: u3
     Stand::Absent
 }
 
-// The memory with the image, which stood as `old`, standing as `new`.
-pub(crate) fn made(
-    places: [PlaceMemory; 16],
-    count: usize,
-    at: usize,
-    image: u32,
-    old: Stand,
-    new: Stand,
-) -> BoardMemory
-    requires known { Known (map place_from places) count image at old }
+// Makes the image, which stood as `old`, stand as `new`.
+pub(crate) fn settle(memory: &mut BoardMemory, at: usize, image: u32, old: Stand, new: Stand)
+    requires known { Known (map place_from memory.old.places) memory.old.count image at old }
     requires value { is_absent new ≡ false → stand_fits new ≡ true }
-    ensures { board_from result ≡ holding (unless_full (settle image new (take count (map place_from places))) (take count (map place_from places))) }
+    ensures { board_from memory.new ≡ holding (unless_full (settle image new (take memory.old.count (map place_from memory.old.places))) (take memory.old.count (map place_from memory.old.places))) }
 {
     if absent(new) {
-        if absent(old) {
-            return BoardMemory { count, places };
+        if !absent(old) {
+            take_out(memory, at);
         }
-        return taken_out(places, count, at);
+        return;
     }
     let p = place_memory(image, new);
-    if absent(old) {
-        if count >= 16 {
-            return BoardMemory { count, places };
-        }
-        return put_in(places, count, at, p);
+    if !absent(old) {
+        replace(memory, at, p);
+        return;
     }
-    replaced(places, count, at, p)
+    if memory.count < 16 {
+        put_in(memory, at, p);
+    }
 }
 
 // Those after it move down, and the last place is zero.
-fn taken_out(places: [PlaceMemory; 16], count: usize, at: usize) -> BoardMemory
-    requires sound { Sound (map place_from places) count }
-    requires at_lt_count { at < count }
-    ensures { board_from result ≡ holding (take at (take count (map place_from places)) ++ drop (at + 1) (take count (map place_from places))) }
+fn take_out(memory: &mut BoardMemory, at: usize)
+    requires sound { Sound (map place_from memory.old.places) memory.old.count }
+    requires at_lt_count { at < memory.old.count }
+    ensures { board_from memory.new ≡ holding (take at (take memory.old.count (map place_from memory.old.places)) ++ drop (at + 1) (take memory.old.count (map place_from memory.old.places))) }
 {
-    let mut out = places;
-    let mut i = at;
-    while i < 15 {
-        out[i] = out[i + 1];
-        i += 1;
-    }
-    out[15] = PlaceMemory {
-        image: 0,
-        stand: 0,
-        share: 0,
-    };
-    BoardMemory {
-        count: count - 1,
-        places: out,
-    }
+    memory.count -= 1;
+    lists::close_at(&mut memory.places, at, NO_PLACE);
 }
 
 // Those after it move up; the last place was unused.
-fn put_in(places: [PlaceMemory; 16], count: usize, at: usize, p: PlaceMemory) -> BoardMemory
-    requires sound { Sound (map place_from places) count }
-    requires at_le_count { (at ≤ count) × (count < 16) }
-    ensures { board_from result ≡ holding (take at (take count (map place_from places)) ++ (place_from p ∷ drop at (take count (map place_from places)))) }
+fn put_in(memory: &mut BoardMemory, at: usize, p: PlaceMemory)
+    requires sound { Sound (map place_from memory.old.places) memory.old.count }
+    requires at_le_count { (at ≤ memory.old.count) × (memory.old.count < 16) }
+    ensures { board_from memory.new ≡ holding (take at (take memory.old.count (map place_from memory.old.places)) ++ (place_from p ∷ drop at (take memory.old.count (map place_from memory.old.places)))) }
 {
-    let mut out = places;
-    let mut carried = p;
-    let mut i = at;
-    while i < 16 {
-        let next = out[i];
-        out[i] = carried;
-        carried = next;
-        i += 1;
-    }
-    BoardMemory {
-        count: count + 1,
-        places: out,
-    }
+    memory.count += 1;
+    lists::open_at(&mut memory.places, at, p);
 }
 
-fn replaced(places: [PlaceMemory; 16], count: usize, at: usize, p: PlaceMemory) -> BoardMemory
-    requires sound { Sound (map place_from places) count }
-    requires at_lt_count { at < count }
-    ensures { board_from result ≡ holding (take at (take count (map place_from places)) ++ (place_from p ∷ drop (at + 1) (take count (map place_from places)))) }
+fn replace(memory: &mut BoardMemory, at: usize, p: PlaceMemory)
+    requires sound { Sound (map place_from memory.old.places) memory.old.count }
+    requires at_lt_count { at < memory.old.count }
+    ensures { board_from memory.new ≡ holding (take at (take memory.old.count (map place_from memory.old.places)) ++ (place_from p ∷ drop (at + 1) (take memory.old.count (map place_from memory.old.places)))) }
 {
-    let mut out = places;
-    out[at] = p;
-    BoardMemory { count, places: out }
+    memory.places[at] = p;
 }

@@ -2,7 +2,6 @@
 // Every byte of the memory is some field's, and any bytes are allowed: what is not the memory of a sound state is refused 9.
 #![tactic(auto)]
 
-mod afters;
 mod answers;
 mod boards;
 mod calls;
@@ -12,11 +11,10 @@ mod frames;
 mod images;
 mod memory;
 pub mod messages;
+mod numbers;
 mod orders_in;
-mod places;
-mod plans;
 mod stands;
-mod walks;
+mod stored;
 
 use clock::Reading;
 use network::{Plan, Timing};
@@ -31,6 +29,14 @@ pub struct HeldMemory {
     pub kind: u8, // 1 publish, 2 halt, 3 resume, 4 withdraw
     pub share: u16, // 1..100 of a publish, else 0
 }
+
+const NO_HELD: HeldMemory = HeldMemory {
+    stamp: Reading(0),
+    image: 0,
+    source: 0,
+    kind: 0,
+    share: 0,
+};
 
 // A host's state.
 #[repr(C)]
@@ -57,6 +63,12 @@ pub struct PlaceMemory {
     pub share: u16,
 }
 
+const NO_PLACE: PlaceMemory = PlaceMemory {
+    image: 0,
+    stand: 0,
+    share: 0,
+};
+
 #[repr(C)]
 #[derive(Clone, Copy)]
 pub struct BoardMemory {
@@ -72,23 +84,4 @@ pub struct PlanMemory {
     pub second: Timing,
     pub plan: Plan,
     pub d: u16,
-}
-
-// What a call leaves of the memory, and what it answers.
-#[derive(Clone, Copy)]
-pub struct HostLeft {
-    pub memory: HostMemory,
-    pub answer: u64,
-}
-
-#[derive(Clone, Copy)]
-pub struct BoardLeft {
-    pub memory: BoardMemory,
-    pub answer: u64,
-}
-
-#[derive(Clone, Copy)]
-pub struct PlanLeft {
-    pub memory: PlanMemory,
-    pub answer: u64,
 }

@@ -1,32 +1,49 @@
 // A host's flat memory: made of a state, and what stands in a place of it.
 ghost use Rattle.std.specs.Prelude.{◌≡◌};
-ghost use Rattle.host.specs.State.{no_held};
-ghost use Rattle.service.specs.Memory.{held_from, own_from, held_memory, host_memory};
+ghost use Rattle.service.specs.Memory.{own_from};
 
 use crate::orders_in::order_from;
-use crate::{HeldMemory, HostMemory};
-use clock::Reading;
+use crate::{HeldMemory, HostMemory, NO_HELD};
 use host::{Held, Host};
-use orders::Order;
 
-fn no_held() -> Held
-    ensures { result ≡ no_held }
-{
-    Held {
-        stamp: Reading(0),
-        source: 0,
-        order: Order::Publish { image: 0, share: 0 },
+impl From<HeldMemory> for Held {
+    ghost use Rattle.std.specs.Prelude.{◌≡◌};
+    ghost use Rattle.service.specs.Memory.{held_from};
+
+    ghost from_gives = { λ e x. x ≡ held_from e };
+
+    fn from(e: HeldMemory) -> Held {
+        Held {
+            stamp: e.stamp,
+            source: e.source,
+            order: order_from(e.kind, e.image, e.share),
+        }
     }
 }
 
-pub(crate) fn held_from(e: HeldMemory) -> Held
-    ensures { result ≡ held_from e }
-{
-    let stamp = e.stamp;
-    Held {
-        stamp,
-        source: e.source,
-        order: order_from(e.kind, e.image, e.share),
+// An order that no host can hold has no kind.
+impl From<Held> for HeldMemory {
+    ghost use Rattle.std.specs.Prelude.{◌≡◌};
+    ghost use Rattle.service.specs.Memory.{held_memory};
+
+    ghost from_gives = { λ x e. e ≡ held_memory x };
+
+    fn from(x: Held) -> HeldMemory {
+        let order = x.order;
+        if !orders::share_fits(order) {
+            return HeldMemory {
+                stamp: x.stamp,
+                source: x.source,
+                ..NO_HELD
+            };
+        }
+        HeldMemory {
+            stamp: x.stamp,
+            image: orders::image(order),
+            source: x.source,
+            kind: orders::kind(order),
+            share: u16::from(orders::share(order)),
+        }
     }
 }
 
@@ -37,53 +54,26 @@ pub(crate) fn own_from(own: u64) -> u8
     if own < 8 { own as u8 } else { 255 }
 }
 
-pub(crate) fn host_memory(host: Host) -> HostMemory
-    ensures { result ≡ host_memory host }
-{
-    let held = host.history;
-    let mut history = [held_memory(no_held()); 32];
-    let mut i = 0;
-    while i < 32 {
-        let e = held[i];
-        history[i] = held_memory(e);
-        i += 1;
-    }
-    let plan = host.plan;
-    let last = host.last;
-    let starts = host.starts;
-    HostMemory {
-        bound: host.bound,
-        last,
-        own: host.own as u64,
-        started: host.started,
-        held: host.held,
-        starts,
-        history,
-        plan,
-        rules: host.rules,
-        d: host.d,
-    }
-}
+impl From<Host> for HostMemory {
+    ghost use Rattle.std.specs.Prelude.{◌≡◌};
+    ghost use Rattle.service.specs.Memory.{host_memory};
 
-pub(crate) fn held_memory(x: Held) -> HeldMemory
-    ensures { result ≡ held_memory x }
-{
-    let stamp = x.stamp;
-    let order = x.order;
-    if !orders::share_fits(order) {
-        return HeldMemory {
-            stamp,
-            image: 0,
-            source: x.source,
-            kind: 0,
-            share: 0,
-        };
-    }
-    HeldMemory {
-        stamp,
-        image: orders::image(order),
-        source: x.source,
-        kind: orders::kind(order),
-        share: orders::share(order) as u16,
+    ghost from_gives = { λ host memory. memory ≡ host_memory host };
+
+    fn from(host: Host) -> HostMemory {
+        let starts = host.starts;
+        let history = host.history.map(|x| HeldMemory::from(x));
+        HostMemory {
+            bound: host.bound,
+            last: host.last,
+            own: u64::from(host.own),
+            started: host.started,
+            held: host.held,
+            starts,
+            history,
+            plan: host.plan,
+            rules: host.rules,
+            d: host.d,
+        }
     }
 }

@@ -1,5 +1,5 @@
 // Messages and replays, which need no memory of ours: their bytes are lent.
-ghost use Rattle.std.specs.Prelude.{◌≡◌, ◌++◌, cond, ◌≤◌, ltb, length, drop};
+ghost use Rattle.std.specs.Prelude.{◌≡◌, ◌++◌, cond, ltb, length, drop};
 ghost use Rattle.message.specs.Calls.{written, written_to};
 ghost use Rattle.report.specs.Calls.{reported, told, left};
 ghost use Rattle.service.specs.Memory.{message_from};
@@ -7,8 +7,8 @@ ghost use Rattle.service.specs.Calls.{pair_number, numbers_of, read_answer, read
 
 use crate::orders_in::order_from;
 use clock::Reading;
-use message::{Found, Got, Message, Written};
-use report::Told;
+use message::{Found, Message};
+use report::ShortBuffer;
 
 // Writes a message; answers its length above the refusal's byte.
 pub fn loom_write(
@@ -29,11 +29,9 @@ pub fn loom_write(
         hop,
         order: order_from(kind, image, share),
     };
-    let answer = message::write(rules, message, out);
-    match answer {
-        Written::Length(n) => 256 * (n as u64),
-        Written::OutOfRange => 23,
-        Written::NoRoom => 22,
+    match message::write(rules, message, out) {
+        Ok(length) => 256 * (length as u64),
+        Err(refusal) => u64::from(u8::from(refusal)),
     }
 }
 
@@ -41,11 +39,9 @@ pub fn loom_write(
 pub fn loom_read(rules: u8, bytes: &[u8], out: &mut [u64]) -> u64
     ensures { (result ≡ read_answer rules bytes.now (length out.old)) × (out.new ≡ read_left rules bytes.now out.old) }
 {
-    let got = message::read(rules, bytes);
-    match got {
-        Got::WrongRules => 23,
-        Got::NotAMessage => 30,
-        Got::Message(found) => put_found(found, out),
+    match message::read(rules, bytes) {
+        Ok(found) => put_found(found, out),
+        Err(refusal) => u64::from(u8::from(refusal)),
     }
 }
 
@@ -57,38 +53,25 @@ fn put_found(found: Found, out: &mut [u64]) -> u64
     }
     let message = found.message;
     let order = message.order;
-    let numbers = [
+    out[..8].copy_from_slice(&[
         message.stamp.0,
-        message.source as u64,
-        message.hop as u64,
-        orders::kind(order) as u64,
-        orders::image(order) as u64,
-        orders::share(order) as u64,
+        u64::from(message.source),
+        u64::from(message.hop),
+        u64::from(orders::kind(order)),
+        u64::from(orders::image(order)),
+        u64::from(orders::share(order)),
         found.start as u64,
         found.size as u64,
-    ];
-    put_numbers(numbers, out);
+    ]);
     0
-}
-
-fn put_numbers(numbers: [u64; 8], out: &mut [u64])
-    requires { 8 ≤ length out.old }
-    ensures { out.new ≡ numbers ++ drop 8 out.old }
-{
-    let mut i: usize = 0;
-    while i < 8 {
-        out[i] = numbers[i];
-        i += 1;
-    }
 }
 
 // Replays a schedule and writes the report's text; answers its length above the refusal's byte.
 pub fn loom_replay(bytes: &[u8], out: &mut [u8]) -> u64
     ensures { (result ≡ pair_number (told (reported bytes.now) out.old)) × (out.new ≡ left (reported bytes.now) out.old) }
 {
-    let answer = report::report(bytes, out);
-    match answer {
-        Told::Written(n) => 256 * (n as u64),
-        Told::ShortBuffer => 22,
+    match report::report(bytes, out) {
+        Ok(length) => 256 * (length as u64),
+        Err(ShortBuffer) => 22,
     }
 }

@@ -2,11 +2,9 @@
 use mathlib.Core.Path.{◌≡◌, sym, ap, ◌∙◌}
 use borrow.Author.Tests.{not-true, not-false}
 use Rattle.std.proofs.Common.{map-id}
-use Rattle.std.specs.Prelude.{Result, Err}
+use Rattle.std.specs.Prelude.{Err}
 use Rattle.lists.specs.Lists.{any}
-use Rattle.host.specs.declared.Refusal.{Refusal}
 use Rattle.host.specs.declared.Refusal.TheVariants.{Unsound}
-use Rattle.host.specs.declared.Sent.{Sent}
 use Rattle.host.specs.State.{held_of, same_name}
 use Rattle.host.specs.Answers.{number, Said, says}
 use Rattle.host.specs.Receive.{same_held, other_held, receive_checks, receive_tests, receive_refusal}

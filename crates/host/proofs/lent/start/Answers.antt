@@ -1,10 +1,8 @@
 -- A state that is not sound is refused first; a refusal keeps the state; else the order is held. Assumes nothing.
 use mathlib.Core.Path.{◌≡◌, sym, ap, ◌∙◌}
 use borrow.Author.Tests.{not-true, not-false}
-use Rattle.std.specs.Prelude.{Result, Err}
-use Rattle.host.specs.declared.Refusal.{Refusal}
+use Rattle.std.specs.Prelude.{Err}
 use Rattle.host.specs.declared.Refusal.TheVariants.{Unsound}
-use Rattle.host.specs.declared.Sent.{Sent}
 use Rattle.host.specs.Answers.{number, Said, says}
 use Rattle.host.specs.Start.{start_checks, start_tests, start_refusal}
 use Rattle.host.proofs.Numbers.{kept, says_refused, said_refusal, passed, failed, err_is}

@@ -2,8 +2,7 @@
 use mathlib.Core.Path.{◌≡◌, sym, ap, ◌∙◌}
 use borrow.Author.Tests.{not-true, not-false}
 use lib.ListN.{length}
-use Rattle.std.specs.Prelude.{Result, Err}
-use Rattle.host.specs.declared.Refusal.{Refusal}
+use Rattle.std.specs.Prelude.{Err}
 use Rattle.host.specs.declared.Refusal.TheVariants.{Unsound}
 use Rattle.host.specs.Answers.{number, SaidTick, says_tick}
 use Rattle.host.specs.Tick.{due_of, tick_checks, tick_tests, tick_refusal}

@@ -19,6 +19,7 @@ returns c =
       c.starts_passed.ensures,
       c.is_rules.ensures,
       c.links_unused.ensures,
+      c.from.ensures,
       c.starts_unused.ensures,
     )
     (all_chain _ _)
