@@ -11,6 +11,7 @@ use lib.ListN.{length, take, drop, get_or, set, take-append-drop, length-map}
 use Rattle.std.specs.List.{take-map}
 use Rattle.std.proofs.lemmas.List.{get_or-map, get_or-take, map-set}
 use Rattle.lists.specs.Lists.{rising}
+use Rattle.lists.proofs.Maps.{put_of}
 use Rattle.lists.proofs.Places.{splice_long}
 use Rattle.orders.specs.declared.Order.{Order}
 use Rattle.orders.specs.Orders.{image_of, share_fits}
@@ -22,7 +23,6 @@ use Rattle.board.specs.Board.{Placeable, before, stand_fits, is_absent, blank, b
 use Rattle.board.specs.Inside.{Sound, StandsAt, WouldStandAt}
 use Rattle.board.proofs.Boards.{sound_is, images_long, holds_itself, taken_out_is, put_in_is, replaced_is}
 use Rattle.board.proofs.Laws.{stands_fit, outcome_fit}
-use Rattle.board.proofs.Moves.{put_map}
 
 unless_same : (t : Bool) (l : List Place) → cond t l l ≡ l
 unless_same true l = refl
@@ -180,7 +180,7 @@ module _ {P : Type 0} (place : P → Place) (old : List P) (count : ℕ) (o : Or
         → out ≡ take 16 (take at old ++ (y ∷ drop at old)) → board_in place out (count + 1) ≡ holding (images_after o (images b))
     opens y out some room e moved =
         ap (λ (t : List P). board_in place t (count + 1)) moved
-        ∙ ap (λ (t : List Place). record { count = count + 1; places = t }) (put_map place old 16 at y)
+        ∙ ap (λ (t : List Place). record { count = count + 1; places = t }) (put_of place 16 at y old)
         ∙ ap (λ (p : Place). record { count = count + 1; places = take 16 (take at b.places ++ (p ∷ drop at b.places)) }) e
         ∙ put_in_is b.places count sixteen is_sound at (record { image = image; stand = stand }) within_use room
         ∙ put_in is_sound sixteen image stand there some room

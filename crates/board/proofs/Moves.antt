@@ -1,13 +1,13 @@
 -- The places of an array moved by one: down, over one that is taken out, and up, for one that is put in. Assumes nothing.
-use mathlib.Core.Path.{◌≡◌, refl, sym, ap, ◌∙◌}
-use mathlib.Core.List.{List, [], ◌∷◌, ◌++◌, append-nil, map}
+use mathlib.Core.Path.{◌≡◌, sym, ap, ◌∙◌}
+use mathlib.Core.List.{List, [], ◌∷◌, ◌++◌, append-nil}
 use Prim.Native.Nat.{ℕ, suc, ◌+◌, ◌-◌, ◌≤◌}
 use native.Mathlib.Omega.{arith}
 use lib.ListN.{length, take, drop, set, length-drop, drop_of_length-le}
 use lib.Seq.{paste, take_all, set_split, length-take-le, take-append-le, take-append-add}
-use Rattle.std.proofs.lemmas.List.{map-append, take-take, drop_at}
+use Rattle.std.proofs.lemmas.List.{take-take, drop_at}
 use Rattle.std.proofs.lemmas.List.Edits.{length-paste, take-paste}
-use Rattle.std.specs.List.{copy_within, take-map, drop-map}
+use Rattle.std.specs.List.{copy_within}
 
 module _ {A : Type 0} (last : ℕ) (l : List A) (at : ℕ) (long : length l ≡ last + 1) (h : at ≤ last) where
   -- those after `at` over it, and z in the last place
@@ -48,15 +48,3 @@ module _ {A : Type 0} (last : ℕ) (l : List A) (at : ℕ) (long : length l ≡ 
       ∙ ap (λ (t : List A). take at l ++ (x ∷ t)) rest
       ∙ sym (take-append-add (take at l) (x ∷ drop at l) (suc n))
       ∙ ap (λ (k : ℕ). take k (take at l ++ (x ∷ drop at l))) (sym whole)
-
-module _ {P Q : Type 0} (place : P → Q) (l : List P) where
-  -- what stands in the places then
-  pub put_map : (n at : ℕ) (x : P) → map place (take n (take at l ++ (x ∷ drop at l))) ≡ take n (take at (map place l) ++ (place x ∷ drop at (map place l)))
-  put_map n at x =
-      sym (take-map place n (take at l ++ (x ∷ drop at l)))
-      ∙ ap (take n) (map-append place (take at l) (x ∷ drop at l) ∙ rw (take-map place at l, drop-map place at l) refl)
-
-  pub cut_map : (at k : ℕ) (z : P) → map place (take at l ++ drop k l ++ (z ∷ [])) ≡ take at (map place l) ++ drop k (map place l) ++ (place z ∷ [])
-  cut_map at k z =
-      map-append place (take at l ++ drop k l) (z ∷ [])
-      ∙ ap (λ (t : List Q). t ++ (place z ∷ [])) (map-append place (take at l) (drop k l) ∙ rw (take-map place at l, drop-map place k l) refl)

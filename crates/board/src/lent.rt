@@ -1,4 +1,4 @@
-// The call that a service makes, over the one board that it lends.
+// The call that a service makes, over the one board that it lends, and what it rests on: the same over places in any form.
 ghost use Rattle.std.specs.Prelude.{◌≡◌, true, OnErr};
 ghost use Rattle.orders.specs.Orders.{share_fits};
 ghost use Rattle.board.specs.Board.{says, sound, board_refusal, board_after, board_in, holding, images_after, images};

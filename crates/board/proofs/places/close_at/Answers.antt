@@ -2,7 +2,8 @@
 use native.Mathlib.Omega.{arith}
 use Rattle.std.proofs.Common.{ap, sym, ◌∙◌, map, take, drop, ◌++◌, ◌∷◌, [], ◌+◌}
 use Rattle.board.specs.declared.Place.{Place}
-use Rattle.board.proofs.Moves.{moved_down, cut_map}
+use Rattle.lists.proofs.Maps.{cut_of}
+use Rattle.board.proofs.Moves.{moved_down}
 use Rattle.board.proofs.places.close_at.Goals as goal
 
 pub returns : goal.returns
@@ -12,5 +13,5 @@ returns g c =
     let at = c.args.at in
     rw c.copy_within.ensures.after
     (ap (map place) (moved_down 15 l at c.told-places (omega arith) c.of.result)
-    ∙ cut_map place l at (at + 1) c.of.result
+    ∙ cut_of place at (at + 1) c.of.result l
     ∙ ap (λ (p : Place). take at (map place l) ++ drop (at + 1) (map place l) ++ (p ∷ [])) (c.of.ensures sym))
