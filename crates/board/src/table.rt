@@ -20,7 +20,7 @@ enum Effect {
 
 use Effect::{Halts, Keeps, Offers, Removes, Resumes};
 
-// A row for each kind of order: on an absent image, an offered one, a halted one.
+// A row for each kind of order: on an absent image, an offered one, a halted one. 01 asks for a constant table by kind and state.
 const EFFECTS: [[Effect; 3]; 4] = [
     // publish
     [Offers, Offers, Keeps],

@@ -6,19 +6,14 @@ ghost use Rattle.engine.specs.Inside.{Playable, fresh_station};
 
 use crate::{Delivery, Log, Station};
 use clock::Reading;
-use host::{Held, Host};
-use orders::Order;
+use host::{Host, NO_HELD};
 use schedule::Schedule;
 use std::array;
 
 // What stands in an unused place of a log.
 const NO_DELIVERY: Delivery = Delivery {
     at: Reading(0),
-    what: Held {
-        stamp: Reading(0),
-        source: 0,
-        order: Order::Publish { image: 0, share: 0 },
-    },
+    what: NO_HELD,
 };
 
 // Fresh hosts, that have delivered nothing; planning accepts the plan, so one is made.

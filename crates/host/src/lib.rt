@@ -29,6 +29,7 @@ pub use starting::{after_start, start_answer};
 pub use starts::{newest, one_more, with_start};
 pub use stored::Stored;
 pub use ticking::{after_tick, tick_answer};
+pub use unused::NO_HELD;
 pub use walks::{due_in_front, is_sound_in, look};
 
 // An order under its name, which is its stamp and its source.

@@ -5,14 +5,14 @@ ghost use Rattle.host.specs.State.{no_held, is_no_link, is_no_reading};
 
 use crate::Held;
 use clock::Reading;
-use network::Link;
-use orders::Order;
+use network::{Link, NO_LINK};
+use orders::BLANK;
 
 // What an unused place of a history holds.
-pub(crate) const NO_HELD: Held = Held {
+pub const NO_HELD: Held = Held {
     stamp: Reading(0),
     source: 0,
-    order: Order::Publish { image: 0, share: 0 },
+    order: BLANK,
 };
 
 // Whether the link places from `used` on are zero.
@@ -25,7 +25,7 @@ pub(crate) fn links_unused(links: [Link; 12], used: usize) -> bool
 fn is_no_link(l: Link) -> bool
     ensures { result ≡ is_no_link l }
 {
-    (l.a == 0) & (l.b == 0)
+    l == NO_LINK
 }
 
 // Whether the start places from `used` on are zero.

@@ -53,7 +53,7 @@ fn may_follow<E: Stored>(previous: Option<E>, e: E) -> bool
 {
     match previous {
         Some(p) => {
-            (p.stamp().0 < e.stamp().0) | ((p.stamp().0 == e.stamp().0) & (p.source() < e.source()))
+            p.stamp() < e.stamp() || p.stamp() == e.stamp() && p.source() < e.source()
         }
         None => true,
     }
@@ -105,7 +105,7 @@ pub fn look<E: Stored>(entries: &[E], x: Held) -> Seen
         named: false,
     };
     for e in entries {
-        if (x.stamp.0 == e.stamp().0) & (x.source == e.source()) {
+        if x.stamp == e.stamp() && x.source == e.source() {
             seen.named = true;
             if x.order == e.held().order {
                 seen.same = true;

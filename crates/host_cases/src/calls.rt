@@ -2,7 +2,7 @@
 use crate::networks::network;
 use crate::show;
 use clock::Reading;
-use host::{Held, Host};
+use host::{Held, Host, NO_HELD};
 use network::{Link, NO_LINK, Plan};
 use orders::Order;
 use std::io;
@@ -120,11 +120,6 @@ fn fill(host: &mut Host, count: u64) {
 
 // The zero state, in which a refused making leaves the memory.
 pub(crate) fn zero() -> Host {
-    let none = Held {
-        stamp: Reading(0),
-        source: 0,
-        order: Order::Publish { image: 0, share: 0 },
-    };
     Host {
         plan: Plan {
             hosts: 0,
@@ -143,6 +138,6 @@ pub(crate) fn zero() -> Host {
         started: 0,
         starts: [Reading(0); 4],
         held: 0,
-        history: [none; 32],
+        history: [NO_HELD; 32],
     }
 }

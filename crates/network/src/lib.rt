@@ -16,7 +16,7 @@ pub use sets::is_in;
 
 // A link joins two hosts, a < b.
 #[repr(C)]
-#[derive(Clone, Copy)]
+#[derive(Clone, Copy, Debug, PartialEq, Eq)]
 pub struct Link {
     pub a: u8,
     pub b: u8,

@@ -5,7 +5,6 @@ ghost use Rattle.std.specs.Prelude.{◌≡◌, length};
 ghost use Rattle.orders.specs.Orders.{kind_of, image_of, share_of, share_fits, same_order, order_of, order_bytes, is_kind, size_of, is_share, wrong_size, wrong_value};
 ghost use Rattle.orders.specs.Rules.{is_rules, hop_fits};
 
-// The first case with zeros is the blank order: its share is out of range, so no host holds it.
 #[derive(Clone, Copy, Debug, PartialEq, Eq)]
 pub enum Order {
     Publish { image: u32, share: u8 },
@@ -13,6 +12,9 @@ pub enum Order {
     Resume(u32),
     Withdraw(u32),
 }
+
+// The blank order, which stands in unused places: its share is out of range, so no host holds it.
+pub const BLANK: Order = Order::Publish { image: 0, share: 0 };
 
 // A kind stays a number: it is the message's byte and C's, and `kind_of` and `order_of` say which.
 pub fn kind(order: Order) -> u8
@@ -70,7 +72,7 @@ pub fn order_of(kind: u8, image: u32, share: u8) -> Order
         2 => Order::Halt(image),
         3 => Order::Resume(image),
         4 => Order::Withdraw(image),
-        _ => Order::Publish { image: 0, share: 0 },
+        _ => BLANK,
     }
 }
 

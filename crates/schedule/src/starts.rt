@@ -8,12 +8,12 @@ use crate::Start;
 use crate::record::Record;
 use crate::taking::Records;
 use clock::Tick;
-use orders::Order;
+use orders::{BLANK, Order};
 
 const NO_START: Start = Start {
     tick: Tick(0),
     host: 0,
-    order: Order::Publish { image: 0, share: 0 },
+    order: BLANK,
 };
 
 impl<'a> Records<'a> {

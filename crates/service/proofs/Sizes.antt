@@ -3,12 +3,12 @@ use mathlib.Core.Path.{◌≡◌, refl, sym, ap, ◌∙◌}
 use mathlib.Core.Bool.{Bool, true, false, cond}
 use mathlib.Core.List.{List, [], ◌∷◌, ◌++◌, append_assoc}
 use Prim.Native.Nat.{ℕ, ◌+◌, ◌≤◌, ◌<◌}
-use native.Mathlib.Numerals.{add-one}
 use native.Mathlib.Omega.{arith}
+use Rattle.lists.proofs.Loops.{left_next}
+use lib.Seq.{length-take-le, take-suc, set_at}
+use native.Mathlib.Numerals.{add-one}
 use lib.Dec.{ltb, eqb}
 use lib.ListN.{length, take, drop, get_or, set}
-use lib.Seq.{length-take-le, take-suc, set_at}
-use Rattle.lists.proofs.Loops.{left_next}
 use Rattle.host.specs.Answers.{unless}
 use Rattle.message.specs.declared.Message.{Message}
 use Rattle.message.specs.Layout.{layout}

@@ -14,7 +14,7 @@ use Rattle.board.specs.Board.{stand_fits, place_fits, is_absent, is_blank}
 use Rattle.service.specs.declared.PlaceMemory.{PlaceMemory}
 use Rattle.service.specs.Memory.{stand_from, place_from, stand_number, stand_share, place_memory}
 use Rattle.service.specs.Inside.{blank_in}
-use Rattle.service.proofs.Zeros.{sum_zero}
+use Rattle.lists.proofs.Zeros.{sum_zero}
 
 module _ (stand share : ℕ) where
   -- by which of the three tests the numbers pass

@@ -18,7 +18,7 @@ mod stored;
 use clock::Reading;
 use network::{Plan, Timing};
 
-// A place of the history: all zero where it is unused.
+// A place of the history: all zero where it is unused. An order is numbers here, as C has no enum with values.
 #[repr(C)]
 #[derive(Clone, Copy)]
 pub struct HeldMemory {
@@ -53,7 +53,7 @@ pub struct HostMemory {
     pub d: u8,
 }
 
-// A place of a board: all zero where it is unused.
+// A place of a board: all zero where it is unused. A stand is numbers here, as C has no enum with values.
 #[repr(C)]
 #[derive(Clone, Copy)]
 pub struct PlaceMemory {

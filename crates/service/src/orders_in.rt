@@ -2,7 +2,7 @@
 ghost use Rattle.std.specs.Prelude.{◌≡◌};
 ghost use Rattle.service.specs.Memory.{formed, zeros, order_from};
 
-use orders::{Order, order_of};
+use orders::{BLANK, Order, order_of};
 
 // Whether kind and share are some order's. As one number they are 2, 3 or 4 of a halt, a resume and a withdrawal, which is one test for the two.
 pub(crate) fn is_formed(kind: u8, share: u16) -> bool
@@ -30,7 +30,7 @@ pub(crate) fn order_from(kind: u8, image: u32, share: u16) -> Order
         return order_of(kind, image, share as u8);
     }
     if is_zero(kind, image, share) {
-        return Order::Publish { image: 0, share: 0 };
+        return BLANK;
     }
     Order::Publish {
         image: 0,

@@ -56,6 +56,7 @@ impl Placed for PlaceMemory {
     }
 }
 
+// What two numbers stand for; those that are no stand's are an image offered to none.
 fn stand_from(stand: u16, share: u16) -> Stand
     ensures { result ≡ stand_from stand share }
 {
