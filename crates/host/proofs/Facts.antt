@@ -230,18 +230,3 @@ pub tick_runs : (h : Host) (u room : ℕ) → TickIs h u room → tick_refusal h
 unfolding tick_tests
 tick_runs h u room k =
     pass_none (tick_tests h u room) (ap not (is_sound h k.sound), (ap not (le-leb _ _ k.reading), (le-ltb _ _ k.later, (le-ltb _ _ k.fits, tt))))
-
-pub hop_most : (rules hop : ℕ) → hop_fits rules hop ≡ true → hop ≤ 8
-hop_most rules hop = go (eqb rules 2)
-  where
-    go : (t : Bool) → cond t (leb 1 hop && leb hop 8) (eqb hop 0) ≡ true → hop ≤ 8
-    go true e = leb-true hop 8 (and_right (leb 1 hop) (leb hop 8) e)
-    go false e = let z : hop ≡ 0 = eqb-true hop 0 e in omega arith
-
--- a copy whose tests after soundness all fail has a hop in range
-pub checked_hop : (h : Host) (u arrival hop : ℕ) (x : Held) (same other named : Bool) → first_of (receive_checks h u arrival hop x same other named) ≡ 0 → hop ≤ 8
-checked_hop h u arrival hop x same other named e =
-    let t = none_pass (receive_checks h u arrival hop x same other named) refl e in
-    let stampFits : Bool = leb x.stamp.0 largest_stamp in
-    let hopIn : Bool = hop_fits h.rules hop in
-    hop_most h.rules hop (and_right stampFits hopIn (and_left_lem (stampFits && hopIn) (share_fits x.order) (not-false _ t.1.0)))
