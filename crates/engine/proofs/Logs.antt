@@ -2,7 +2,7 @@
 use mathlib.Core.Path.{◌≡◌, refl, sym, ap, ◌∙◌}
 use mathlib.Core.Bool.{Bool, true, false, cond, not, false≢true}
 use mathlib.Core.Logic.{inl, inr}
-use mathlib.Core.List.{List, [], ◌∷◌, ◌++◌, map, append_assoc, append-nil}
+use mathlib.Core.List.{List, [], ◌∷◌, ◌++◌, map, append_assoc}
 use Prim.Native.Nat.{ℕ, zero, suc, ◌+◌, ◌≤◌, ◌<◌}
 use native.Mathlib.Numerals.{add-one}
 use native.Mathlib.Omega.{arith}
@@ -20,17 +20,15 @@ use Rattle.lists.proofs.Loops.{keep_both}
 use Rattle.clock.specs.declared.Reading.{Reading}
 use Rattle.clock.specs.declared.Tick.{Tick}
 use Rattle.host.specs.State.{no_held, held_of, before}
-use Rattle.host.specs.Answers.{SaidTick, number, says_tick, said_by_tick}
+use Rattle.host.specs.Answers.{SaidTick, says_tick, said_by_tick}
 use Rattle.host.specs.Tick.{due, due_of, tick_refusal, tick_says, tick_host}
 use Rattle.host.specs.declared.Held.{Held}
 use Rattle.host.specs.declared.Host.{Host}
-use Rattle.std.specs.Prelude.{Ok, Err}
-use Rattle.host.specs.declared.Refusal.{Refusal}
+use Rattle.std.specs.Prelude.{Ok}
 use Rattle.host.proofs.Facts.{SoundIs, tick_is}
 use Rattle.host.proofs.Keeps.{held_most}
 use Rattle.host.proofs.Outcomes.{accepted}
 use Rattle.host.proofs.Names.{Goes, before_is, before_trans}
-use Rattle.host.proofs.Numbers.{kept}
 use Rattle.schedule.specs.declared.Schedule.{Schedule}
 use Rattle.engine.specs.declared.Delivery.{Delivery}
 use Rattle.engine.specs.declared.Log.{Log}

@@ -1,12 +1,11 @@
 -- What soundness and an accepted call say, each fact by its name. Assumes nothing.
 use mathlib.Core.Path.{◌≡◌, refl, ap}
-use mathlib.Core.Bool.{Bool, true, false, not, cond, ◌&&◌}
+use mathlib.Core.Bool.{Bool, true, false, not, ◌&&◌}
 use Prim.Native.Nat.{ℕ, ◌+◌, ◌*◌, ◌≤◌, ◌<◌}
-use native.Mathlib.Omega.{arith}
 use borrow.Author.Tests.{not-false, not-true, leb-true, leb-false, ltb-true, ltb-false, le-leb, lt-leb, lt-ltb, le-ltb, eqb-true, eq-eqb}
 use lib.Dec.{leb, ltb, eqb}
 use lib.ListN.{length, get_or, drop}
-use Rattle.lists.specs.Tests.{all_of, first_of}
+use Rattle.lists.specs.Tests.{all_of}
 use Rattle.lists.specs.Lists.{all, any, rising}
 use Rattle.lists.proofs.Bools.{and_left_lem, and_right}
 use Rattle.lists.proofs.TestLaws.{all_each, each_all, none_pass, pass_none}
@@ -20,7 +19,7 @@ use Rattle.host.specs.declared.Host.{Host}
 use Rattle.host.specs.State.{no_reading, is_no_link, is_no_reading, is_no_held, starts_of, held_of, last_start, same_name, before, earlier, fits, own_started, not_above, frame_tests, history_tests, framed, sound}
 use Rattle.host.specs.OwnLinks.{ends}
 use Rattle.host.specs.Start.{start_tests, start_refusal}
-use Rattle.host.specs.Receive.{early, late, same_held, other_held, receive_checks, receive_tests, receive_refusal}
+use Rattle.host.specs.Receive.{early, late, same_held, other_held, receive_tests, receive_refusal}
 use Rattle.host.specs.Tick.{due_of, tick_tests, tick_refusal}
 
 pub record SoundIs (h : Host) : Type 0 where

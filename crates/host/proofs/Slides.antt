@@ -2,10 +2,8 @@
 use mathlib.Core.Path.{◌≡◌, refl, sym, ap, ◌∙◌}
 use mathlib.Core.List.{List, [], ◌∷◌}
 use Prim.Native.Nat.{ℕ, ◌+◌, ◌-◌}
-use native.Mathlib.Nat.{le_of_eq}
 use native.Mathlib.Omega.{arith}
 use lib.ListN.{length, take, drop, get_or, length-append, length-drop}
-use lib.Seq.{take_all}
 use Rattle.lists.specs.Lists.{pad}
 use Rattle.clock.specs.declared.Reading.{Reading}
 use Rattle.host.specs.State.{no_reading}
