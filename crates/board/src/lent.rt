@@ -3,9 +3,9 @@ ghost use Rattle.std.specs.Prelude.{◌≡◌, true, OnErr};
 ghost use Rattle.orders.specs.Orders.{share_fits};
 ghost use Rattle.board.specs.Board.{says, sound, board_refusal, board_after, board_in, holding, images_after, images};
 
-use crate::places::{close_at, find, open_at};
+use crate::places::find;
 use crate::sound::{absent, is_sound};
-use crate::{Board, Place, Placed, Refusal, Stand, outcome_of};
+use crate::{Board, NO_PLACE, Place, Placed, Refusal, Stand, outcome_of};
 use orders::Order;
 
 // What an order makes of the board; refused, the board is as it was.
@@ -47,7 +47,7 @@ fn change<P: Placed>(places: &mut [P; 16], count: &mut usize, order: Order)
         Ok(at) => {
             let stand = outcome_of(order, places[at].stand());
             if absent(stand) {
-                close_at(places, at);
+                lists::close_at(places, at, P::of(NO_PLACE));
                 *count -= 1;
             } else {
                 places[at] = P::of(Place { image, stand });
@@ -56,7 +56,7 @@ fn change<P: Placed>(places: &mut [P; 16], count: &mut usize, order: Order)
         Err(at) => {
             let stand = outcome_of(order, Stand::Absent);
             if !absent(stand) && *count < 16 {
-                open_at(places, at, P::of(Place { image, stand }));
+                lists::open_at(places, at, P::of(Place { image, stand }));
                 *count += 1;
             }
         }

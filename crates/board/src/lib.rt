@@ -30,6 +30,12 @@ pub struct Place {
     pub stand: Stand,
 }
 
+// An unused place.
+pub const NO_PLACE: Place = Place {
+    image: 0,
+    stand: Stand::Absent,
+};
+
 // The first `count` places are in use, in rising image; the others are all zero. The type has no invariant, as its fields are public and
 // a board of any numbers is taken: one that is not sound is refused 9.
 #[derive(Clone, Copy)]
@@ -40,8 +46,8 @@ pub struct Board {
 
 #[derive(Clone, Copy, Debug, PartialEq, Eq)]
 pub enum Refusal {
-    Unsound,
-    OutOfRange,
+    Unsound = 9,
+    OutOfRange = 23,
 }
 
 impl From<Refusal> for u8 {
@@ -51,10 +57,7 @@ impl From<Refusal> for u8 {
     ghost from_gives = { λ refusal n. n ≡ number refusal };
 
     fn from(refusal: Refusal) -> u8 {
-        match refusal {
-            Refusal::Unsound => 9,
-            Refusal::OutOfRange => 23,
-        }
+        refusal as u8
     }
 }
 
