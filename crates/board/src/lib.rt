@@ -14,6 +14,7 @@ pub use lent::{apply, apply_in};
 use orders::Order;
 pub use placed::Placed;
 pub use sound::absent;
+use std::fmt;
 pub use table::outcome_of;
 
 // What a board says of an image; the number is its share.
@@ -22,6 +23,21 @@ pub enum Stand {
     Absent,
     Offered(u8),
     Halted(u8),
+}
+
+impl fmt::Display for Stand {
+    ghost use Rattle.std.specs.Prelude.{Some};
+    ghost use Rattle.board.specs.Board.{words};
+
+    ghost output = { λ stand. Some (words stand) };
+
+    fn fmt<W: fmt::Write>(&self, f: &mut fmt::Formatter<W>) -> fmt::Result {
+        match self {
+            Stand::Absent => write!(f, "absent"),
+            Stand::Offered(share) => write!(f, "offered {share}"),
+            Stand::Halted(share) => write!(f, "halted {share}"),
+        }
+    }
 }
 
 #[derive(Clone, Copy, Debug, PartialEq, Eq)]
