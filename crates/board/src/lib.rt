@@ -52,8 +52,8 @@ pub const NO_PLACE: Place = Place {
     stand: Stand::Absent,
 };
 
-// The first `count` places are in use, in rising image; the others are all zero. The type has no invariant, as its fields are public and
-// a board of any numbers is taken: one that is not sound is refused 9.
+// The first `count` places are in use, in rising image; the others are all zero: no heap, so places and a count. The type has no invariant,
+// as its fields are public and a board of any numbers is taken: one that is not sound is refused 9.
 #[derive(Clone, Copy)]
 pub struct Board {
     pub count: usize,
