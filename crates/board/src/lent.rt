@@ -16,7 +16,7 @@ pub fn apply(board: &mut Board, order: Order) -> Result<(), Refusal>
 }
 
 // The same over places in whatever form they are kept; refused 9 or 23, in that order, and then nothing is written.
-// Places and count come apart: they lie in Board and in C's BoardMemory, two types that definitions name (board_in, board_from).
+// Places and count come apart: they lie in Board and in C's BoardMemory, two types that definitions name (board_after, board_from).
 pub fn apply_in<P: Placed>(
     places: &mut [P; 16],
     count: &mut usize,
