@@ -2,48 +2,22 @@
 use mathlib.Core.Path.{◌≡◌, refl, sym, ap, ap₂, ◌∙◌}
 use mathlib.Core.Bool.{Bool, true, false, ◌&&◌}
 use mathlib.Core.List.{List, [], ◌∷◌, ◌++◌}
-use Prim.Native.Nat.{ℕ, zero, suc, ◌+◌, ◌-◌, ◌/◌, ◌%◌, ◌^◌, ◌≤◌, ◌<◌, min}
+use Prim.Native.Nat.{ℕ, zero, suc, ◌-◌, ◌/◌, ◌%◌, ◌^◌, ◌≤◌, ◌<◌, min}
 use borrow.Author.Tests.{leb-true, leb-false}
 use lib.Dec.{leb}
-use lib.ListN.{length, take, drop, get_or, length-drop}
+use lib.ListN.{length, take, drop, length-drop}
 use lib.Seq.{take_all}
 use native.Mathlib.Omega.{arith}
 use native.Mathlib.Nat.{pow-succ', div-div-eq-div-mul}
 use Rattle.std.specs.Int.{byte_at, bytes_high_first}
-use Rattle.std.specs.List.{list_all, IsAllAdjacentAnswer}
+use Rattle.std.specs.List.{list_all}
 use Rattle.lists.specs.Bytes.{be}
-use Rattle.lists.specs.Lists.{all, rising}
+use Rattle.lists.specs.Lists.{all}
 use Rattle.lists.proofs.Loops.{left_none}
-
-one_more : (k : ℕ) → suc k + 1 ≡ suc (k + 1)
-one_more k = omega arith
 
 pub all_same : {A : Type 0} (p : A → Bool) (l : List A) → list_all p l ≡ all p l
 all_same p [] = refl
 all_same p (x ∷ l) = ap (λ (t : Bool). p x && t) (all_same p l)
-
--- each stands in the relation to the next, or some one does not
-module _ {A : Type 0} (r : A → A → Bool) where
-  rise_all : (l : List A) → ((k : ℕ) (d : A) → k + 1 < length l → true ≡ r (get_or l k d) (get_or l (k + 1) d)) → rising r l ≡ true
-  rise_all [] h = refl
-  rise_all (x ∷ []) h = refl
-  rise_all (x ∷ y ∷ l) h =
-      rw (← h 0 x (omega arith)) (rise_all (y ∷ l) (λ k d b. h (suc k) d (omega arith) ∙ ap (λ (j : ℕ). r (get_or (y ∷ l) k d) (get_or (x ∷ y ∷ l) j d)) (one_more k)))
-
-  rise_miss : (l : List A) (k : ℕ) → k + 1 < length l → ((d : A) → false ≡ r (get_or l k d) (get_or l (k + 1) d)) → rising r l ≡ false
-  rise_miss [] k h miss = let f : ⊥ = omega arith in absurd f
-  rise_miss (x ∷ []) k h miss = let f : ⊥ = omega arith in absurd f
-  rise_miss (x ∷ y ∷ l) zero h miss = rw (← miss x) refl
-  rise_miss (x ∷ y ∷ l) (suc k) h miss =
-      go (r x y) (rise_miss (y ∷ l) k (omega arith) (λ d. miss d ∙ ap (λ (j : ℕ). r (get_or (y ∷ l) k d) (get_or (x ∷ y ∷ l) j d)) (one_more k)))
-    where
-      go : (b : Bool) → rising r (y ∷ l) ≡ false → (b && rising r (y ∷ l)) ≡ false
-      go true e = e
-      go false e = refl
-
-  pub rises_same : (b : Bool) (l : List A) → IsAllAdjacentAnswer (λ x y t. t ≡ r x y) l b → b ≡ rising r l
-  rises_same true l h = sym (rise_all l h)
-  rises_same false l h = sym (rise_miss l h.0 h.1 h.2)
 
 -- the places from used on, where there are so many
 pub rest_same : {A : Type 0} (N used m : ℕ) (l : List A) → length l ≡ N → m ≡ min used N → take (N - m) (drop m l) ≡ drop used l

@@ -21,7 +21,20 @@ pub(crate) fn starts_rise(starts: [Reading; 4], started: usize) -> bool
     requires { started ≤ 4 }
     ensures { result ≡ rising earlier (take started starts) }
 {
-    starts[..started].is_sorted_by(|s, t| s < t)
+    // is_sorted_by was tried, and is slower.
+    let mut ok = true;
+    let mut previous = starts[0];
+    for (i, s) in starts[..started].iter().enumerate() {
+        ok = ok & ((i == 0) | is_earlier(previous, *s));
+        previous = *s;
+    }
+    ok
+}
+
+fn is_earlier(s: Reading, t: Reading) -> bool
+    ensures { result ≡ earlier s t }
+{
+    s < t
 }
 
 // Whether no start is above the last reading.
