@@ -7,7 +7,9 @@ mod record;
 mod rules;
 mod shape;
 mod starts;
+mod steps;
 mod taking;
+mod walk;
 
 ghost use Rattle.std.specs.Prelude.{◌≡◌};
 ghost use Rattle.schedule.specs.Calls.{says, found, answered, schedule_read};
@@ -28,6 +30,7 @@ pub struct Start {
     pub order: Order,
 }
 
+// No heap: places and a count.
 #[derive(Clone, Copy)]
 pub struct Schedule {
     pub plan: Plan,
@@ -37,7 +40,7 @@ pub struct Schedule {
     pub end: Tick,
     pub start_count: usize,
     pub starts: [Start; 16],
-    pub delays: [u8; 384], // of each copy, by start, link and direction; 0 is lost
+    pub delays: [u8; 384], // of each copy, by start, link and direction; 0 is lost: a number, as definition schedule_read has it
 }
 
 // Why bytes are refused.

@@ -34,6 +34,7 @@ impl Terms {
         let bytes = records.tally.bytes;
         let mut before = 0;
         let mut at = 0;
+        // Not by a `Walk`: a step needs the place before too.
         for k in 0..records.tally.count {
             let here = Record { bytes, at };
             let last = Record { bytes, at: before };
@@ -83,7 +84,7 @@ impl Terms {
     {
         let tick = step.here.tick();
         let last = step.last.tick();
-        (tick.0 > self.end.0) | ((step.last.tag() == START) & (tick.0 < last.0))
+        (self.end < tick) | ((step.last.tag() == START) & (tick < last))
     }
 
     // A delay above δ, a lost copy where nothing is faulty, or a fate not above the one that it follows.
