@@ -52,19 +52,7 @@ module _ (f : HostMemory) where
   pub sized_in : length f.starts ≡ 4 → length f.history ≡ 32 → Sized h
   sized_in starts history = record { starts = starts; history = length-map f.history held_from ∙ history }
 
-  -- ---- what is held under a name, and what is due
-
-  any_in : (p : Held → Bool) → any p (held_of h) ≡ any (λ (e : HeldMemory). p (held_from e)) l
-  any_in p = ap (any p) held_in ∙ any_of held_from p l
-
-  pub same_in_lem : (x : Held) → any (same_held x) (held_of h) ≡ any (same_in x) l
-  same_in_lem x = any_in (same_held x)
-
-  pub other_in_lem : (x : Held) → any (other_held x) (held_of h) ≡ any (other_in x) l
-  other_in_lem x = any_in (other_held x)
-
-  pub named_in_lem : (x : Held) → any (same_name x) (held_of h) ≡ any (named_in x) l
-  named_in_lem x = any_in (same_name x)
+  -- ---- what is due
 
   pub due_in_lem : (u : ℕ) → due_of h u ≡ map held_from (keep (due_in f.bound u) l)
   due_in_lem u = ap (keep (due f.bound u)) held_in ∙ keep_of held_from (due f.bound u) l

@@ -22,10 +22,6 @@ by_form kind share f P p1 p2 p3 p4 = go (eqb kind 1) refl f
         subst (λ (s : ℕ). P kind s) (sym none)
         (by_kind kind (and_left_lem (is_kind kind) (eqb share 0) e) (λ k. eqb k 1 ≡ false → P k 0) (λ y. absurd (true≢false y)) (λ _. p2) (λ _. p3) (λ _. p4) x)
 
-pub share_byte : (kind share : ℕ) → formed kind share ≡ true → share < 256
-share_byte kind share f =
-    by_form kind share f (λ k s. s < 256) (λ s e. let h : s ≤ 100 = leb-true _ _ (and_right (leb 1 s) (leb s 100) e) in omega arith) (omega arith) (omega arith) (omega arith)
-
 module _ (kind image share : ℕ) where
   -- its share is in range just where they are an order's
   pub from_fits : share_fits (order_from kind image share) ≡ formed kind share

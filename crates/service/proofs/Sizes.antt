@@ -40,19 +40,7 @@ told_few bs out n e = go (too_short (reported bs) out) (ap (λ (q : ℕ × ℕ).
     go true e = omega arith
     go false e = omega (arith, text_size (answered bs) (outcome_of bs) (outcome_in_places bs))
 
--- what reading says is what the answer and the numbers are made of
-module _ (rules : ℕ) (bs out : List ℕ) (said : ℕ × Found) (e : said ≡ read_of rules bs) where
-  pub read_answer_lem : cond (eqb said.0 0) (cond (ltb (length out) 8) 22 0) said.0 ≡ read_answer rules bs (length out)
-  read_answer_lem = ap (λ (q : ℕ × Found). cond (eqb q.0 0) (cond (ltb (length out) 8) 22 0) q.0) e
-
-  pub read_left_lem : unless (cond (eqb said.0 0) (cond (ltb (length out) 8) 22 0) said.0) (numbers_of said.1 ++ drop 8 out) out ≡ read_left rules bs out
-  read_left_lem = ap (λ (q : ℕ × Found). unless (cond (eqb q.0 0) (cond (ltb (length out) 8) 22 0) q.0) (numbers_of q.1 ++ drop 8 out) out) e
-
--- refused by a test alone
-pub unless_test : {A : Type 0} (b : Bool) (x y : A) → cond b y x ≡ unless (cond b 22 0) x y
-unless_test true x y = refl
-unless_test false x y = refl
-
+-- one number more at the front
 pub put_next : (l out : List ℕ) (i : ℕ) → i < length l → i < length out → set (take i l ++ drop i out) i (get_or l i 0) ≡ take (i + 1) l ++ drop (i + 1) out
 put_next l out i h k =
     let x : ℕ = get_or l i 0 in

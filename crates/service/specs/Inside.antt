@@ -39,15 +39,6 @@ before_in x e = before (held_from x) (held_from e)
 abbrev pub unused_in : HeldMemory → Bool
 unused_in e = is_no_held (held_from e)
 
-abbrev pub named_in : Held → HeldMemory → Bool
-named_in x e = same_name x (held_from e)
-
-abbrev pub same_in : Held → HeldMemory → Bool
-same_in x e = same_held x (held_from e)
-
-abbrev pub other_in : Held → HeldMemory → Bool
-other_in x e = other_held x (held_from e)
-
 abbrev pub due_in : ℕ → ℕ → HeldMemory → Bool
 due_in Δ u e = due Δ u (held_from e)
 

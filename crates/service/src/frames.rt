@@ -7,6 +7,7 @@ use crate::HostMemory;
 use crate::memory::own_from;
 use host::Frame;
 
+// X
 pub(crate) fn frame_from(memory: &HostMemory) -> Frame
     ensures { result ≡ frame_of (host_from memory.now) }
 {
