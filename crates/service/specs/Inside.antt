@@ -1,8 +1,6 @@
 -- Notions that only private contracts cite. Assumes nothing.
 use Rattle.std.specs.Prelude.{Bool, not, List, ℕ}
-use Rattle.host.specs.declared.Held.{Held}
-use Rattle.host.specs.State.{before, is_no_held, same_name}
-use Rattle.host.specs.Receive.{same_held, other_held}
+use Rattle.host.specs.State.{before, is_no_held}
 use Rattle.host.specs.Tick.{due}
 use Rattle.board.specs.Board.{is_blank}
 use Rattle.service.specs.declared.HeldMemory.{HeldMemory}
