@@ -10,28 +10,21 @@ ghost use Rattle.fields.specs.Faults.{fault};
 pub use read::{byte_at, head_fault, slot_fault, value_at, value_fault};
 pub use write::{put, put_slot};
 
-// What is wrong with a field; and bytes after the last one.
+// What is wrong with a field, under the build paper's number; and bytes after the last one.
 #[derive(Clone, Copy, Debug, PartialEq, Eq)]
 pub enum Fault {
-    CutShort,
-    WrongTag,
-    WrongLength,
-    WrongValue,
-    LeftOver,
+    CutShort = 33,
+    WrongTag = 34,
+    WrongLength = 35,
+    WrongValue = 36,
+    LeftOver = 37,
 }
 
-// The number of a fault.
 impl From<Fault> for u8 {
     ghost from_gives = { λ f n. n ≡ fault f };
 
     fn from(f: Fault) -> u8 {
-        match f {
-            Fault::CutShort => 33,
-            Fault::WrongTag => 34,
-            Fault::WrongLength => 35,
-            Fault::WrongValue => 36,
-            Fault::LeftOver => 37,
-        }
+        f as u8
     }
 }
 

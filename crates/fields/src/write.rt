@@ -37,7 +37,8 @@ fn has_room(len: usize, at: usize, n: usize) -> bool
     n <= len && at <= len - n
 }
 
-// Byte by byte from behind: a loop, as a compiler turns it into one store of the whole number where the width is known.
+// Not by to_be_bytes, which gives eight bytes: the clause of put has any width, and zeros in front past the eighth.
+// A compiler turns this loop into one store of the whole number where the width is known.
 fn store(out: &mut [u8], at: usize, width: u8, x: u64)
     requires { at + width ≤ length out.old }
     ensures { out.new ≡ sets out.old at (be width x) }

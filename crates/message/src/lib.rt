@@ -20,26 +20,23 @@ pub use writing::write;
 pub struct Message {
     pub stamp: Reading,
     pub source: u8,
-    // 1..8 under the second rules, 0 under the first; a number, as a call takes any and refuses the rest.
+    // 1..8 under the second rules, 0 under the first; a number, as `write` takes any and refuses the rest.
     pub hop: u8,
     pub order: Order,
 }
 
-// Why a message is not written.
+// Why a message is not written, under the build paper's number.
 #[derive(Clone, Copy, Debug, PartialEq, Eq)]
 pub enum WriteRefusal {
-    OutOfRange,
-    NoRoom,
+    OutOfRange = 23,
+    NoRoom = 22,
 }
 
 impl From<WriteRefusal> for u8 {
     ghost from_gives = { λ r n. n ≡ write_number r };
 
     fn from(refusal: WriteRefusal) -> u8 {
-        match refusal {
-            WriteRefusal::OutOfRange => 23,
-            WriteRefusal::NoRoom => 22,
-        }
+        refusal as u8
     }
 }
 
@@ -51,21 +48,18 @@ pub struct Found {
     pub size: usize,
 }
 
-// Why bytes are not read.
+// Why bytes are not read, under the build paper's number.
 #[derive(Clone, Copy, Debug, PartialEq, Eq)]
 pub enum ReadRefusal {
-    WrongRules,
-    NotAMessage,
+    WrongRules = 23,
+    NotAMessage = 30,
 }
 
 impl From<ReadRefusal> for u8 {
     ghost from_gives = { λ r n. n ≡ read_number r };
 
     fn from(refusal: ReadRefusal) -> u8 {
-        match refusal {
-            ReadRefusal::WrongRules => 23,
-            ReadRefusal::NotAMessage => 30,
-        }
+        refusal as u8
     }
 }
 
@@ -91,7 +85,7 @@ pub const HOP: Slot = Slot {
 };
 
 // Where the order's field begins: after stamp and source, and under the second rules the hop.
-// A rule set is a number, as a call takes any and refuses the rest.
+// A rule set is a number, as `write` and `read` take any and refuse the rest.
 fn order_place(rules: u8) -> usize
     ensures { result ≡ order_place rules }
 {

@@ -1,4 +1,5 @@
 // Reading: the bytes are judged field by field from the front, and then the message is taken from where it stands.
+// Rules and bytes are no struct: the public calls take the two, and the definitions of specs/Layout and specs/Calls are over the two.
 ghost use Rattle.std.specs.Prelude.{◌≡◌, cond, eqb, [], ◌∷◌, get_or};
 ghost use Rattle.lists.specs.Tests.{first_of};
 ghost use Rattle.fields.specs.Faults.{verdict, first};

@@ -88,7 +88,7 @@ fn refuse(rt: &impl Print) -> io::Result<()> {
     text::line(rt, "")?;
     text::word(rt, "read")?;
     for rules in [0, 1] {
-        text::number(rt, read_number(rules) as u64)?;
+        text::number(rt, refusal_or_0(message::read(rules, b"")) as u64)?;
     }
     text::line(rt, "")
 }
@@ -96,18 +96,11 @@ fn refuse(rt: &impl Print) -> io::Result<()> {
 // The refusal of writing to so many bytes, 32 at most, or 0.
 fn write_number(case: Case, room: usize) -> u8 {
     let mut bytes = [0u8; 32];
-    match message::write(case.rules, case.message, &mut bytes[..room.min(32)]) {
-        Ok(_) => 0,
-        Err(refusal) => u8::from(refusal),
-    }
+    refusal_or_0(message::write(case.rules, case.message, &mut bytes[..room.min(32)]))
 }
 
-// The refusal of reading no bytes, or 0.
-fn read_number(rules: u8) -> u8 {
-    match message::read(rules, b"") {
-        Ok(_) => 0,
-        Err(refusal) => u8::from(refusal),
-    }
+fn refusal_or_0<T: Drop, E: Into<u8>>(answer: Result<T, E>) -> u8 {
+    answer.map_or_else(|refusal| refusal.into(), |_| 0)
 }
 
 // A thousand messages from a fixed seed, written, read and compared; then a sum over all their bytes, and over their orders' bytes.

@@ -25,3 +25,7 @@ pub report_one : (bs out : List ℕ) (r s : Result ℕ ShortBuffer) (o p : List 
     → (says r ≡ told (reported bs) out) × (o ≡ left (reported bs) out) → (says s ≡ told (reported bs) out) × (p ≡ left (reported bs) out)
     → (r ≡ s) × (o ≡ p)
 report_one bs out r s o p a b = (one_told r s a.0 b.0, one_result a.1 b.1)
+
+-- the number of a refusal
+pub short_buffer_number_one : (refusal : ShortBuffer) (r s : ℕ) → r ≡ 22 → s ≡ 22 → r ≡ s
+short_buffer_number_one refusal r s = one_result

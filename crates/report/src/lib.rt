@@ -10,9 +10,17 @@ ghost use Rattle.report.specs.Calls.{reported, says, told, left};
 
 use crate::writers::Writer;
 
-// 22: the lent buffer is too short for the text.
+// The lent buffer is too short for the text.
 #[derive(Clone, Copy, Debug, PartialEq, Eq)]
 pub struct ShortBuffer;
+
+impl From<ShortBuffer> for u8 {
+    ghost from_gives = { λ _ n. n ≡ 22 };
+
+    fn from(_: ShortBuffer) -> u8 {
+        22
+    }
+}
 
 // The text of what a replay of these bytes answers, from the first byte of the buffer on, and its length; or the buffer as it was, where it is too short.
 pub fn report(bytes: &[u8], out: &mut [u8]) -> Result<usize, ShortBuffer>

@@ -1,7 +1,7 @@
 -- Numbers that are an order's, and what the order of any three numbers tells of them. Assumes nothing.
 use mathlib.Core.Path.{◌≡◌, refl, sym, ap₂, subst, ◌∙◌}
 use mathlib.Core.Bool.{Bool, true, false, cond, ◌&&◌, and-false, true≢false}
-use Prim.Native.Nat.{ℕ, ◌+◌, ◌*◌, ◌≤◌, ◌<◌}
+use Prim.Native.Nat.{ℕ, ◌+◌, ◌*◌, ◌≤◌}
 use native.Mathlib.Omega.{arith}
 use borrow.Author.Tests.{leb-true, le-leb, eqb-true, eq-eqb, ne_eqb}
 use lib.Dec.{leb, eqb}
@@ -21,10 +21,6 @@ by_form kind share f P p1 p2 p3 p4 = go (eqb kind 1) refl f
         let none : share ≡ 0 = eqb-true share 0 (and_right (is_kind kind) (eqb share 0) e) in
         subst (λ (s : ℕ). P kind s) (sym none)
         (by_kind kind (and_left_lem (is_kind kind) (eqb share 0) e) (λ k. eqb k 1 ≡ false → P k 0) (λ y. absurd (true≢false y)) (λ _. p2) (λ _. p3) (λ _. p4) x)
-
-pub share_byte : (kind share : ℕ) → formed kind share ≡ true → share < 256
-share_byte kind share f =
-    by_form kind share f (λ k s. s < 256) (λ s e. let h : s ≤ 100 = leb-true _ _ (and_right (leb 1 s) (leb s 100) e) in omega arith) (omega arith) (omega arith) (omega arith)
 
 module _ (kind image share : ℕ) where
   -- its share is in range just where they are an order's

@@ -1,5 +1,4 @@
 -- What the proofs of several functions use, and the laws for callers: Back, Through, One.
-mod Zeros
 mod Forms
 mod Shifts
 pub mod Back

@@ -7,6 +7,8 @@ use Rattle.lists.proofs.One.{one_result}
 use Rattle.clock.specs.declared.Reading.{Reading}
 use Rattle.orders.specs.declared.Order.{Order}
 use Rattle.network.specs.Network.{planned}
+use Rattle.host.specs.declared.Frame.{Frame}
+use Rattle.host.specs.State.{frame_of}
 use Rattle.host.specs.Make.{make_refusal}
 use Rattle.host.specs.Answers.{Said}
 use Rattle.host.specs.Calls.{Call, ticks}
@@ -58,3 +60,7 @@ loom_read_one rules bs out r s l k = both
 pub loom_replay_one : (bs out : List ℕ) (r s : ℕ) (l k : List ℕ)
     → (r ≡ pair_number (told (reported bs) out)) × (l ≡ report.left (reported bs) out) → (s ≡ pair_number (told (reported bs) out)) × (k ≡ report.left (reported bs) out) → (r ≡ s) × (l ≡ k)
 loom_replay_one bs out r s l k = both
+
+-- all but the history, as the host's calls take it
+pub frame_from_one : (f : HostMemory) (r s : Frame) → r ≡ frame_of (host_from f) → s ≡ frame_of (host_from f) → r ≡ s
+frame_from_one f r s = one_result

@@ -1,8 +1,6 @@
 -- Notions that only private contracts cite. Assumes nothing.
 use Rattle.std.specs.Prelude.{Bool, not, List, ℕ}
-use Rattle.host.specs.declared.Held.{Held}
-use Rattle.host.specs.State.{before, is_no_held, same_name}
-use Rattle.host.specs.Receive.{same_held, other_held}
+use Rattle.host.specs.State.{before, is_no_held}
 use Rattle.host.specs.Tick.{due}
 use Rattle.board.specs.Board.{is_blank}
 use Rattle.service.specs.declared.HeldMemory.{HeldMemory}
@@ -38,15 +36,6 @@ before_in x e = before (held_from x) (held_from e)
 
 abbrev pub unused_in : HeldMemory → Bool
 unused_in e = is_no_held (held_from e)
-
-abbrev pub named_in : Held → HeldMemory → Bool
-named_in x e = same_name x (held_from e)
-
-abbrev pub same_in : Held → HeldMemory → Bool
-same_in x e = same_held x (held_from e)
-
-abbrev pub other_in : Held → HeldMemory → Bool
-other_in x e = other_held x (held_from e)
 
 abbrev pub due_in : ℕ → ℕ → HeldMemory → Bool
 due_in Δ u e = due Δ u (held_from e)

@@ -9,7 +9,6 @@ ghost use Rattle.host.specs.Tick.{tick_says};
 ghost use Rattle.service.specs.Memory.{host_from};
 
 use crate::HostMemory;
-use crate::frames::frame_from;
 use clock::Reading;
 use host::{Frame, Held, Refusal, Sent, is_sound_in};
 use orders::Order;
@@ -48,7 +47,7 @@ pub(crate) fn tick_answer(memory: &HostMemory, u: Reading, room: usize) -> Resul
 fn sound_frame(memory: &HostMemory) -> Result<Frame, Refusal>
     ensures { result ≡ cond (sound (host_from memory.now)) (Ok (frame_of (host_from memory.now))) (Err Unsound) }
 {
-    let frame = frame_from(memory);
+    let frame = Frame::from(memory);
     if is_sound_in(frame, &memory.history) {
         Ok(frame)
     } else {

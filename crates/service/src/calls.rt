@@ -1,4 +1,5 @@
 // The calls of a host on its flat memory, in place: refused, the memory is as it was.
+// Not by the host's own calls: to make a Host of 32 places and store it back was slower than all the rest of a call.
 ghost use Rattle.std.specs.Prelude.{◌≡◌, length};
 ghost use Rattle.host.specs.Answers.{refusal_of, says, says_tick};
 ghost use Rattle.host.specs.Make.{make_refusal};

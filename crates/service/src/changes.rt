@@ -29,6 +29,7 @@ pub(crate) fn write_due(due: &[HeldMemory], out: &mut [u8])
     }
 }
 
+// Not the host's own put_entry: a public function would have no requires, and would test the place.
 fn put_entry(out: &mut [u8], at: usize, e: Held)
     requires { at + 16 ≤ length out.old }
     ensures { out.new ≡ paste out.old at (entry_of e) 16 }

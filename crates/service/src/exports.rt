@@ -12,7 +12,7 @@ ghost use Rattle.service.specs.Calls.{call_left, send_number, tick_number, make_
 
 use crate::boards::apply;
 use crate::calls::{make, receive, start, tick};
-use crate::numbers::{send_number, tick_number};
+use crate::numbers::{done_number, number, send_number};
 use crate::orders_in::order_from;
 use crate::{BoardMemory, HostMemory, PlanMemory};
 use clock::Reading;
@@ -29,7 +29,7 @@ pub fn loom_plan(memory: &mut PlanMemory) -> u64
             memory.d = u16::from(bounds.d);
             0
         }
-        Err(refusal) => u64::from(u8::from(refusal)),
+        Err(refusal) => done_number(Err(refusal)),
     }
 }
 
@@ -37,10 +37,7 @@ pub fn loom_plan(memory: &mut PlanMemory) -> u64
 pub fn loom_make(memory: &mut HostMemory, rules: u8, own: u8) -> u64
     ensures { (memory.new ≡ make_left memory.old rules own) × (result ≡ make_refusal memory.old.plan rules own) }
 {
-    match make(memory, rules, own) {
-        Ok(()) => 0,
-        Err(refusal) => u64::from(u8::from(refusal)),
-    }
+    done_number(make(memory, rules, own))
 }
 
 pub fn loom_start(memory: &mut HostMemory, u: u64, kind: u8, image: u32, share: u16) -> u64
@@ -74,14 +71,11 @@ pub fn loom_receive(
 pub fn loom_tick(memory: &mut HostMemory, u: u64, out: &mut [u8]) -> u64
     ensures { (memory.new ≡ call_left memory.old (record { 0 = u }) (ticks (length out.old))) × ((result ≡ tick_number (tick_says (host_from memory.old) u (length out.old))) × (out.new ≡ tick_list (host_from memory.old) u out.old)) }
 {
-    tick_number(tick(memory, Reading(u), out))
+    number(tick(memory, Reading(u), out))
 }
 
 pub fn loom_apply(memory: &mut BoardMemory, kind: u8, image: u32, share: u16) -> u64
     ensures { (memory.new ≡ order_left memory.old (order_from kind image share)) × (result ≡ board_refusal (board_from memory.old) (order_from kind image share)) }
 {
-    match apply(memory, order_from(kind, image, share)) {
-        Ok(()) => 0,
-        Err(refusal) => u64::from(u8::from(refusal)),
-    }
+    done_number(apply(memory, order_from(kind, image, share)))
 }

@@ -1,4 +1,5 @@
-// The door for a service that is not written in Rattle: the calls that `service_c` exports, over flat memory, which holds no enum and no reference. A host's calls and a board's work on that memory itself, by the host's and the board's own rules.
+// The door for a service that is not written in Rattle: the calls that `service_c` exports, over flat memory, which holds no enum and no reference.
+// A host's calls and a board's work on that memory itself, by the host's and the board's own rules.
 // Every byte of the memory is some field's, and any bytes are allowed: what is not the memory of a sound state is refused 9.
 #![tactic(auto)]
 

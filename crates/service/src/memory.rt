@@ -47,7 +47,7 @@ impl From<Held> for HeldMemory {
     }
 }
 
-// A host's number, which has one byte.
+// A host's number, which has one byte. Not From: what comes in is a loose number of C, no type of ours.
 pub(crate) fn own_from(own: u64) -> u8
     ensures { result ≡ own_from own }
 {

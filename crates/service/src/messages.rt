@@ -5,10 +5,10 @@ ghost use Rattle.report.specs.Calls.{reported, told, left};
 ghost use Rattle.service.specs.Memory.{message_from};
 ghost use Rattle.service.specs.Calls.{pair_number, numbers_of, read_answer, read_left};
 
+use crate::numbers::{done_number, number};
 use crate::orders_in::order_from;
 use clock::Reading;
 use message::{Found, Message};
-use report::ShortBuffer;
 
 // Writes a message; answers its length above the refusal's byte.
 pub fn loom_write(
@@ -29,10 +29,7 @@ pub fn loom_write(
         hop,
         order: order_from(kind, image, share),
     };
-    match message::write(rules, message, out) {
-        Ok(length) => 256 * (length as u64),
-        Err(refusal) => u64::from(u8::from(refusal)),
-    }
+    number(message::write(rules, message, out))
 }
 
 // Reads a message: stamp, source, hop, kind, image, share, and the place and the size of the order's bytes, as the first eight of the lent numbers.
@@ -41,10 +38,11 @@ pub fn loom_read(rules: u8, bytes: &[u8], out: &mut [u64]) -> u64
 {
     match message::read(rules, bytes) {
         Ok(found) => put_found(found, out),
-        Err(refusal) => u64::from(u8::from(refusal)),
+        Err(refusal) => done_number(Err(refusal)),
     }
 }
 
+// 22 or 0: C's answer (read_answer).
 fn put_found(found: Found, out: &mut [u64]) -> u64
     ensures { (result ≡ cond (ltb (length out.old) 8) 22 0) × (out.new ≡ cond (ltb (length out.old) 8) out.old (numbers_of found ++ drop 8 out.old)) }
 {
@@ -81,8 +79,5 @@ fn put_numbers(numbers: [u64; 8], out: &mut [u64])
 pub fn loom_replay(bytes: &[u8], out: &mut [u8]) -> u64
     ensures { (result ≡ pair_number (told (reported bytes.now) out.old)) × (out.new ≡ left (reported bytes.now) out.old) }
 {
-    match report::report(bytes, out) {
-        Ok(length) => 256 * (length as u64),
-        Err(ShortBuffer) => 22,
-    }
+    number(report::report(bytes, out))
 }

@@ -23,6 +23,7 @@ pub(crate) fn is_zero(kind: u8, image: u32, share: u16) -> bool
 }
 
 // The order; where the numbers are no order's, one that every call refuses: the blank one of zeros alone.
+// Not From: what comes in is three loose numbers of C, no type of ours.
 pub(crate) fn order_from(kind: u8, image: u32, share: u16) -> Order
     ensures { result ≡ order_from kind image share }
 {

@@ -1,4 +1,5 @@
 // The calls that C and Rust link with: each is the call of `service` under the same name, with the same clauses.
+// A crate of its own: Rattle builds a crate as a library or as an archive, not as both.
 #![tactic(auto)]
 
 ghost use Rattle.std.specs.Prelude.{◌≡◌, length};

@@ -1,7 +1,6 @@
--- What the report says, as one number. Assumes nothing.
-use native.Mathlib.Omega.{arith}
-use Rattle.service.proofs.Sizes.{told_few}
+-- The report's length has room in the number. Assumes nothing.
+use Rattle.service.proofs.Sizes.{told_small}
 use Rattle.service.proofs.messages.loom_replay.Goals as goal
 
-pub overflow_mul-result : goal.overflow_mul-result
-overflow_mul-result c = let e = c.in-Ok.ensures.numbers in omega (arith, told_few _ _ _ e)
+pub number-requires : goal.number-requires
+number-requires c = told_small _ _ _ c.report.ensures.numbers
