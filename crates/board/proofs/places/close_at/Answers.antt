@@ -14,4 +14,4 @@ returns g c =
     rw c.copy_within.ensures.after
     (ap (map place) (moved_down 15 l at c.told-places (omega arith) c.of.result)
     ∙ cut_of place at (at + 1) c.of.result l
-    ∙ ap (λ (p : Place). take at (map place l) ++ drop (at + 1) (map place l) ++ (p ∷ [])) (c.of.ensures sym))
+    ∙ ap (λ (p : Place). take at (map place l) ++ drop (at + 1) (map place l) ++ (p ∷ [])) (ap place c.of.ensures ∙ g.met.P.Placed.comes_back _ sym))
