@@ -3,7 +3,6 @@ mod Cells
 pub mod Effects
 pub mod Placing
 pub mod Sounds
-pub mod Moves
 pub mod Boards
 pub mod Makings
 mod Settling

@@ -11,7 +11,7 @@ use lib.ListN.{length, take, drop, get_or, set, take-append-drop, length-map}
 use Rattle.std.specs.List.{take-map}
 use Rattle.std.proofs.lemmas.List.{get_or-map, get_or-take, map-set}
 use Rattle.lists.specs.Lists.{rising}
-use Rattle.lists.proofs.Maps.{put_of}
+use Rattle.lists.proofs.Maps.{cut_of, put_of}
 use Rattle.lists.proofs.Places.{splice_long}
 use Rattle.orders.specs.declared.Order.{Order}
 use Rattle.orders.specs.Orders.{image_of, share_fits}
@@ -142,9 +142,14 @@ module _ {P : Type 0} (place : P → Place) (old : List P) (count : ℕ) (o : Or
         subst (λ (new : Stand). stand_fits new ≡ true) (sym becomes)
         (outcome_fit o (stands image (images b)) fits (stands_fit image (images b) is_sound.fit) (ap is_absent (sym becomes) ∙ some))
 
-    pub closes : (out : List P) → is_absent stand ≡ true → map place out ≡ take at b.places ++ drop (at + 1) b.places ++ (blank ∷ []) → board_in place out (count - 1) ≡ holding (images_after o (images b))
-    closes out gone e =
-        ap (λ (t : List Place). record { count = count - 1; places = t }) e
+    pub closes : (y : P) (out : List P) → is_absent stand ≡ true → place y ≡ blank → (at < length old → out ≡ take at old ++ drop (at + 1) old ++ (y ∷ []))
+        → board_in place out (count - 1) ≡ holding (images_after o (images b))
+    closes y out gone e moved =
+        let few = is_sound.few in
+        let inside = in_use in
+        ap (λ (t : List P). board_in place t (count - 1)) (moved (omega arith))
+        ∙ ap (λ (t : List Place). record { count = count - 1; places = t }) (cut_of place at (at + 1) y old)
+        ∙ ap (λ (p : Place). record { count = count - 1; places = take at b.places ++ drop (at + 1) b.places ++ (p ∷ []) }) e
         ∙ taken_out_is b.places count sixteen is_sound at in_use
         ∙ taken_out is_sound sixteen image stand here gone
         ∙ ap holding (after_is i becomes)
@@ -177,9 +182,9 @@ module _ {P : Type 0} (place : P → Place) (old : List P) (count : ℕ) (o : Or
         omega arith
 
     pub opens : (y : P) (out : List P) → is_absent stand ≡ false → count < 16 → place y ≡ record { image = image; stand = stand }
-        → out ≡ take 16 (take at old ++ (y ∷ drop at old)) → board_in place out (count + 1) ≡ holding (images_after o (images b))
+        → out ≡ take (length old) (take at old ++ (y ∷ drop at old)) → board_in place out (count + 1) ≡ holding (images_after o (images b))
     opens y out some room e moved =
-        ap (λ (t : List P). board_in place t (count + 1)) moved
+        ap (λ (t : List P). board_in place t (count + 1)) (moved ∙ ap (λ (n : ℕ). take n (take at old ++ (y ∷ drop at old))) long)
         ∙ ap (λ (t : List Place). record { count = count + 1; places = t }) (put_of place 16 at y old)
         ∙ ap (λ (p : Place). record { count = count + 1; places = take 16 (take at b.places ++ (p ∷ drop at b.places)) }) e
         ∙ put_in_is b.places count sixteen is_sound at (record { image = image; stand = stand }) within_use room

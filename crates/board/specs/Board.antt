@@ -1,5 +1,5 @@
 -- The board (01, "The board"). Assumes nothing.
-use Rattle.std.specs.Prelude.{◌≡◌, Bool, true, false, not, cond, ◌&&◌, List, [], ◌∷◌, ◌++◌, ℕ, leb, ltb, eqb, length, take, drop, map, Result, Ok, Err}
+use Rattle.std.specs.Prelude.{◌≡◌, Bool, true, false, not, cond, ◌&&◌, List, [], ◌∷◌, ◌++◌, ℕ, leb, ltb, eqb, length, take, drop, map, codes, decimal, Result, Ok, Err}
 use Rattle.lists.specs.Tests.{all_of, first_of}
 use Rattle.lists.specs.Lists.{all, rising, pad}
 use Rattle.orders.specs.declared.Order.{Order}
@@ -49,6 +49,12 @@ sound b =
 -- the board of these places, each standing for one
 abbrev pub board_in : {P : Type 0} → (P → Place) → List P → ℕ → Board
 board_in place places count = record { count = count; places = map place places }
+
+-- how a stand is written: a word, and the share where it has one
+abbrev pub words : Stand → List ℕ
+words Absent = codes "absent"
+words (Offered share) = codes "offered " ++ decimal share
+words (Halted share) = codes "halted " ++ decimal share
 
 -- a stand that a place of a sound board can have
 abbrev pub Placeable : Stand → Type 0

@@ -3,9 +3,9 @@ ghost use Rattle.std.specs.Prelude.{◌≡◌, true, OnErr};
 ghost use Rattle.orders.specs.Orders.{share_fits};
 ghost use Rattle.board.specs.Board.{says, sound, board_refusal, board_after, board_in, holding, images_after, images};
 
-use crate::places::{close_at, find, open_at};
+use crate::places::find;
 use crate::sound::{absent, is_sound};
-use crate::{Board, Place, Placed, Refusal, Stand, outcome_of};
+use crate::{Board, NO_PLACE, Place, Placed, Refusal, Stand, outcome_of};
 use orders::Order;
 
 // What an order makes of the board; refused, the board is as it was.
@@ -16,7 +16,7 @@ pub fn apply(board: &mut Board, order: Order) -> Result<(), Refusal>
 }
 
 // The same over places in whatever form they are kept; refused 9 or 23, in that order, and then nothing is written.
-// Places and count come apart: a struct holds no array of a type parameter.
+// Places and count come apart: they lie in Board and in C's BoardMemory, two types that definitions name (board_after, board_from).
 pub fn apply_in<P: Placed>(
     places: &mut [P; 16],
     count: &mut usize,
@@ -47,7 +47,7 @@ fn change<P: Placed>(places: &mut [P; 16], count: &mut usize, order: Order)
         Ok(at) => {
             let stand = outcome_of(order, places[at].stand());
             if absent(stand) {
-                close_at(places, at);
+                lists::close_at(places, at, P::of(NO_PLACE));
                 *count -= 1;
             } else {
                 places[at] = P::of(Place { image, stand });
@@ -56,7 +56,7 @@ fn change<P: Placed>(places: &mut [P; 16], count: &mut usize, order: Order)
         Err(at) => {
             let stand = outcome_of(order, Stand::Absent);
             if !absent(stand) && *count < 16 {
-                open_at(places, at, P::of(Place { image, stand }));
+                lists::open_at(places, at, P::of(Place { image, stand }));
                 *count += 1;
             }
         }

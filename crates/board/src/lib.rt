@@ -14,6 +14,7 @@ pub use lent::{apply, apply_in};
 use orders::Order;
 pub use placed::Placed;
 pub use sound::absent;
+use std::fmt;
 pub use table::outcome_of;
 
 // What a board says of an image; the number is its share.
@@ -24,14 +25,35 @@ pub enum Stand {
     Halted(u8),
 }
 
+impl fmt::Display for Stand {
+    ghost use Rattle.std.specs.Prelude.{Some};
+    ghost use Rattle.board.specs.Board.{words};
+
+    ghost output = { λ stand. Some (words stand) };
+
+    fn fmt<W: fmt::Write>(&self, f: &mut fmt::Formatter<W>) -> fmt::Result {
+        match self {
+            Stand::Absent => write!(f, "absent"),
+            Stand::Offered(share) => write!(f, "offered {share}"),
+            Stand::Halted(share) => write!(f, "halted {share}"),
+        }
+    }
+}
+
 #[derive(Clone, Copy, Debug, PartialEq, Eq)]
 pub struct Place {
     pub image: u32,
     pub stand: Stand,
 }
 
-// The first `count` places are in use, in rising image; the others are all zero. The type has no invariant, as its fields are public and
-// a board of any numbers is taken: one that is not sound is refused 9.
+// An unused place.
+pub const NO_PLACE: Place = Place {
+    image: 0,
+    stand: Stand::Absent,
+};
+
+// The first `count` places are in use, in rising image; the others are all zero: no heap, so places and a count. The type has no invariant,
+// as its fields are public and a board of any numbers is taken: one that is not sound is refused 9.
 #[derive(Clone, Copy)]
 pub struct Board {
     pub count: usize,
@@ -40,8 +62,8 @@ pub struct Board {
 
 #[derive(Clone, Copy, Debug, PartialEq, Eq)]
 pub enum Refusal {
-    Unsound,
-    OutOfRange,
+    Unsound = 9,
+    OutOfRange = 23,
 }
 
 impl From<Refusal> for u8 {
@@ -51,10 +73,7 @@ impl From<Refusal> for u8 {
     ghost from_gives = { λ refusal n. n ≡ number refusal };
 
     fn from(refusal: Refusal) -> u8 {
-        match refusal {
-            Refusal::Unsound => 9,
-            Refusal::OutOfRange => 23,
-        }
+        refusal as u8
     }
 }
 

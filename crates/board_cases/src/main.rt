@@ -6,7 +6,7 @@ mod drawn;
 mod lent;
 mod show;
 
-use board::{Board, Place, Stand};
+use board::{Board, NO_PLACE, Place, Stand};
 use lent::told;
 use orders::Order;
 use std::io;
@@ -56,10 +56,7 @@ fn only(image: u32, stand: Stand) -> Board {
 pub(crate) fn empty() -> Board {
     Board {
         count: 0,
-        places: [Place {
-            image: 0,
-            stand: Stand::Absent,
-        }; 16],
+        places: [NO_PLACE; 16],
     }
 }
 

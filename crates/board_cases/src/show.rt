@@ -1,5 +1,5 @@
 // A board as a line: its images, each with how it stands and its share.
-use board::{Applied, Board, Place, Stand};
+use board::{Applied, Board};
 use std::io;
 
 // The refusal, or the board.
@@ -14,16 +14,7 @@ pub(crate) fn applied(rt: &impl Print, a: Applied) -> io::Result<()> {
 fn images(rt: &impl Print, b: &Board) -> io::Result<()> {
     print!(rt; "board")?;
     for p in b.places.iter().take(b.count) {
-        place(rt, *p)?;
+        print!(rt; " {} {}", p.image, p.stand)?;
     }
     Ok(())
-}
-
-fn place(rt: &impl Print, p: Place) -> io::Result<()> {
-    print!(rt; " {}", p.image)?;
-    match p.stand {
-        Stand::Absent => print!(rt; " absent"),
-        Stand::Offered(share) => print!(rt; " offered {share}"),
-        Stand::Halted(share) => print!(rt; " halted {share}"),
-    }
 }

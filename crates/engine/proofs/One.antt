@@ -9,10 +9,10 @@ use Rattle.lists.proofs.One.{one_result}
 use Rattle.schedule.specs.declared.Refusal.{Refusal}
 use Rattle.schedule.specs.declared.Schedule.{Schedule}
 use Rattle.schedule.specs.Schedule.{schedule_of}
-use Rattle.schedule.specs.Calls.{answered, numbers, nothing, schedule_read}
+use Rattle.schedule.specs.Calls.{says, answered, numbers, nothing, schedule_read}
 use Rattle.schedule.proofs.One.{read_one}
 use Rattle.engine.specs.declared.Outcome.{Outcome}
-use Rattle.engine.specs.Calls.{says, outcome_in, outcome_of}
+use Rattle.engine.specs.Calls.{outcome_in, outcome_of}
 use Rattle.engine.proofs.Runs.{some_number, refused}
 
 abbrev Right : List ℕ → Result Outcome Refusal → Type 0

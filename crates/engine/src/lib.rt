@@ -10,8 +10,8 @@ mod starting;
 mod ticking;
 
 ghost use Rattle.std.specs.Prelude.{◌≡◌};
-ghost use Rattle.schedule.specs.Calls.{answered};
-ghost use Rattle.engine.specs.Calls.{says, outcome_in, outcome_of};
+ghost use Rattle.schedule.specs.Calls.{says, answered};
+ghost use Rattle.engine.specs.Calls.{outcome_in, outcome_of};
 ghost use Rattle.engine.specs.Inside.{InPlaces};
 
 use clock::{Reading, Tick};

@@ -8,7 +8,6 @@ pub mod MemberLaws
 pub mod Loops
 pub mod Maps
 pub mod Walks
-pub mod Histories
 pub mod Zeros
 pub mod Steps
 pub mod Looks

@@ -1,14 +1,14 @@
 -- The loop that looks through the first n places of an array for a name: whether an element that has it is alike, whether one is not, whether
 -- there is one. What was found so far, with what is left to look at, is the whole. Assumes nothing.
-use mathlib.Core.Path.{◌≡◌, refl, sym, ◌∙◌}
-use mathlib.Core.Bool.{Bool, true, false, not, cond, ◌&&◌, ◌||◌, or-true, or-false}
+use mathlib.Core.Path.{◌≡◌, sym, ◌∙◌}
+use mathlib.Core.Bool.{Bool, not, ◌&&◌, ◌||◌}
 use mathlib.Core.List.{List, map}
-use Prim.Native.Nat.{ℕ, ◌+◌, ◌≤◌, ◌<◌, zero-le}
+use Prim.Native.Nat.{ℕ, ◌≤◌}
 use native.Mathlib.Omega.{arith}
-use lib.ListN.{length, take, drop, get_or}
+use lib.ListN.{length, take, drop}
 use lib.Seq.{take-length}
 use Rattle.lists.specs.Lists.{any}
-use Rattle.lists.proofs.Loops.{first_next, first_none, any_turn, any_end}
+use Rattle.lists.proofs.Loops.{first_none, any_end}
 use Rattle.lists.proofs.Maps.{any_of}
 
 pub record Looked {A : Type 0} (has alike : A → Bool) (l : List A) (n : ℕ) (same other named : Bool) (i : ℕ) : Type 0 where
@@ -18,29 +18,6 @@ pub record Looked {A : Type 0} (has alike : A → Bool) (l : List A) (n : ℕ) (
   pub names : (named || any has (drop i (take n l))) ≡ any has (take n l)
 
 module _ {A : Type 0} {has alike : A → Bool} {l : List A} {n : ℕ} where
-  pub look_start : Looked has alike l n false false false 0
-  look_start = record { inside = zero-le; sames = refl; others = refl; names = refl }
-
-  module _ {same other named : Bool} {i : ℕ} (z : A) (s : Looked has alike l n same other named i) (long : n ≤ length l) (h : i < n) where
-    -- t and u are what the tests of the place i found
-    pub look_turn : {t u : Bool} → t ≡ has (get_or l i z) → u ≡ alike (get_or l i z) → Looked has alike l n (same || (t && u)) (other || (t && not u)) (named || t) (i + 1)
-    look_turn {t} {u} e f =
-        let next = first_next l n long z i h in
-        record {
-          inside = omega arith;
-          sames = any_turn (λ (e : A). has e && alike e) same (t && u) next s.sames (rw (e, f));
-          others = any_turn (λ (e : A). has e && not (alike e)) other (t && not u) next s.others (rw (e, f));
-          names = any_turn has named t next s.names e;
-        }
-
-    -- a turn that writes only what it finds
-    pub look_found : (u : Bool) → true ≡ has (get_or l i z) → u ≡ alike (get_or l i z) → Looked has alike l n (cond u true same) (cond u other true) true (i + 1)
-    look_found true e f = rw (or-true same, or-false other, or-true named) at (look_turn e f)
-    look_found false e f = rw (or-false same, or-true other, or-true named) at (look_turn e f)
-
-    pub look_passed : false ≡ has (get_or l i z) → Looked has alike l n same other named (i + 1)
-    look_passed e = rw (or-false same, or-false other, or-false named) at (look_turn e refl)
-
   pub look_end : {same other named : Bool} {i : ℕ} → Looked has alike l n same other named i → n ≤ length l → n ≤ i
       → (same ≡ any (λ (e : A). has e && alike e) (take n l)) × ((other ≡ any (λ (e : A). has e && not (alike e)) (take n l)) × (named ≡ any has (take n l)))
   look_end {same} {other} {named} {i} s long h =

@@ -1,14 +1,14 @@
 -- Loops over the elements of a list. What a loop has left is a list: a turn takes its first element, the end finds it empty, and a law for
 -- each search says what the loop then has. Assumes nothing.
 use mathlib.Core.Path.{◌≡◌, refl, sym, ap, ◌∙◌}
-use mathlib.Core.Bool.{Bool, true, false, not, cond, ◌&&◌, ◌||◌, and_assoc, and-true, or_assoc, or-false}
+use mathlib.Core.Bool.{Bool, true, false, not, cond, ◌&&◌, ◌||◌, and_assoc, and-true, or-false}
 use mathlib.Core.List.{List, [], ◌∷◌, ◌++◌, append-nil}
 use Prim.Native.Nat.{ℕ, zero, suc, ◌+◌, ◌≤◌, ◌<◌}
 use native.Mathlib.Numerals.{add-one}
 use native.Mathlib.Omega.{arith}
 use lib.ListN.{length, take, drop, get_or, drop_of_length-le, length-append}
 use lib.Seq.{drop-cons, get_or-take, length-take-le, take-suc, take-add}
-use Rattle.lists.specs.Lists.{all, any, rising_from, rising, keep}
+use Rattle.lists.specs.Lists.{all, any, keep}
 use Rattle.lists.proofs.Bools.{and_left_lem, and_right}
 
 -- ---- what is left
@@ -41,29 +41,12 @@ module _ {A : Type 0} {left rest : List A} {x : A} {t : Bool} where
   pub all_turn : (p : A → Bool) (ok b : Bool) → left ≡ x ∷ rest → (ok && all p left) ≡ t → b ≡ p x → ((ok && b) && all p rest) ≡ t
   all_turn p ok b s inv e = rw (e, and_assoc ok (p x) (all p rest)) (rw s at inv)
 
-  pub any_turn : (p : A → Bool) (ok b : Bool) → left ≡ x ∷ rest → (ok || any p left) ≡ t → b ≡ p x → ((ok || b) || any p rest) ≡ t
-  any_turn p ok b s inv e = rw (e, or_assoc ok (p x) (any p rest)) (rw s at inv)
-
-  -- the element before, w, is kept beside what is left
-  pub rising_turn : (r : A → A → Bool) (ok b : Bool) (w : A) → left ≡ x ∷ rest → (ok && rising_from r w left) ≡ t → b ≡ r w x
-      → ((ok && b) && rising_from r x rest) ≡ t
-  rising_turn r ok b w s inv e = rw (e, and_assoc ok (r w x) (rising_from r x rest)) (rw s at inv)
-
 module _ {A : Type 0} {left : List A} {t : Bool} where
   pub all_end : (p : A → Bool) (ok : Bool) → left ≡ [] → (ok && all p left) ≡ t → ok ≡ t
   all_end p ok s inv = sym (and-true ok) ∙ (rw s at inv)
 
   pub any_end : (p : A → Bool) (ok : Bool) → left ≡ [] → (ok || any p left) ≡ t → ok ≡ t
   any_end p ok s inv = sym (or-false ok) ∙ (rw s at inv)
-
-  pub rising_end : (r : A → A → Bool) (ok : Bool) (w : A) → left ≡ [] → (ok && rising_from r w left) ≡ t → ok ≡ t
-  rising_end r ok w s inv = sym (and-true ok) ∙ (rw s at inv)
-
--- before the first turn, the first element is the one before
-pub rising_start : {A : Type 0} (r : A → A → Bool) (d : A) (n : ℕ) (l : List A) → rising_from r (get_or l 0 d) (drop 1 (take n l)) ≡ rising r (take n l)
-rising_start r d zero l = refl
-rising_start r d (suc n) [] = refl
-rising_start r d (suc n) (x ∷ l) = refl
 
 -- ---- a loop that keeps the elements that pass a test
 

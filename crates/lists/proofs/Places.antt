@@ -1,12 +1,12 @@
 -- A list in the first places of an array, the others blank: read back, one more at the end, one put in among them. Assumes nothing.
 use mathlib.Core.Path.{◌≡◌, refl, sym, ap, ◌∙◌}
 use mathlib.Core.Bool.{Bool, true, false, cond}
-use mathlib.Core.List.{List, [], ◌∷◌, ◌++◌, append_assoc, append-nil}
+use mathlib.Core.List.{List, [], ◌∷◌, ◌++◌, append_assoc}
 use Prim.Native.Nat.{ℕ, zero, suc, ◌+◌, ◌-◌, ◌≤◌, ◌<◌}
 use native.Mathlib.Numerals.{add-one}
 use native.Mathlib.Omega.{arith}
-use lib.ListN.{length, take, drop, get_or, set, replicate, drop_of_length-le, length-append, length-drop, length-set, take-append-drop, replicate-append-replicate, length-replicate}
-use lib.Seq.{drop-cons, append_snoc, length-take-le, take-append-le, drop-append-le, drop-append-add, take-append-add, take_at, take_all, set_at, take-suc-set, drop-set-lt, set_split, set-append_left}
+use lib.ListN.{length, take, drop, get_or, set, replicate, length-append, length-drop, length-set, take-append-drop, replicate-append-replicate, length-replicate}
+use lib.Seq.{length-take-le, take-append-le, drop-append-le, drop-append-add, take-append-add, take_at, set_at, set_split, set-append_left}
 use Rattle.lists.specs.Lists.{all, insert, pad}
 use Rattle.lists.proofs.Bools.{and_left_lem, and_right}
 
@@ -100,40 +100,6 @@ get_or_pad {A} N z l i = go (N - length l) l i
 
 pub length_pad : {A : Type 0} (N : ℕ) (z : A) (l : List A) → length l ≤ N → length (pad N z l) ≡ N
 length_pad N z l h = length-append l (replicate (N - length l) z) ∙ ap (λ (k : ℕ). length l + k) (length-replicate (N - length l) z) ∙ (let whole : length l + (N - length l) ≡ N = omega arith in whole)
-
--- ---- the loop that moves what follows up by one: c, carried, goes before what is left
-
-module _ {A : Type 0} {t : List A} where
-  pub shift_turn : (d : A) (l : List A) (c : A) (i : ℕ) → i < length l → take i l ++ (c ∷ drop i l) ≡ t
-      → take (i + 1) (set l i c) ++ (get_or l i d ∷ drop (i + 1) (set l i c)) ≡ t
-  shift_turn d l c i h inv =
-      rw (add-one, take-suc-set l i c h, drop-set-lt (suc i) l i c (omega arith), append_snoc (take i l) c (get_or l i d ∷ drop (suc i) l), ← drop-cons l i d h) inv
-
-  pub shift_end : (l : List A) (c : A) (i n : ℕ) → length l ≡ n → n ≤ i → take i l ++ (c ∷ drop i l) ≡ t → l ≡ take n t
-  shift_end l c i n e h inv =
-      let at : l ++ (c ∷ []) ≡ t = rw (take_all i l (omega arith), drop_of_length-le l {i = i} (omega arith)) at inv in
-      sym (take_at l (c ∷ []) n e) ∙ ap (take n) at
-
--- ---- the loop that moves what follows down by one: the place at i is the one to fill
-
-module _ {A : Type 0} {t : List A} where
-  pub close_turn : (d : A) (l : List A) (i : ℕ) → i + 1 < length l → take i l ++ drop (i + 1) l ≡ t
-      → take (i + 1) (set l i (get_or l (i + 1) d)) ++ drop (i + 1 + 1) (set l i (get_or l (i + 1) d)) ≡ t
-  close_turn d l i h inv =
-      let x : A = get_or l (i + 1) d in
-      let next : drop (i + 1) l ≡ x ∷ drop (i + 1 + 1) l = rw (add-one (i + 1)) (drop-cons l (i + 1) d h) in
-      let front : take (i + 1) (set l i x) ≡ take i l ++ (x ∷ []) = ap (λ (k : ℕ). take k (set l i x)) (add-one i) ∙ take-suc-set l i x (omega arith) in
-      ap (λ (t : List A). t ++ drop (i + 1 + 1) (set l i x)) front
-      ∙ ap (λ (t : List A). (take i l ++ (x ∷ [])) ++ t) (drop-set-lt (i + 1 + 1) l i x (omega arith))
-      ∙ append_snoc (take i l) x (drop (i + 1 + 1) l)
-      ∙ ap (λ (t : List A). take i l ++ t) (sym next)
-      ∙ inv
-
-  pub close_end : (z : A) (l : List A) (i : ℕ) → length l ≡ i + 1 → take i l ++ drop (i + 1) l ≡ t → set l i z ≡ t ++ (z ∷ [])
-  close_end z l i e inv =
-      let none : drop (suc i) l ≡ [] = drop_of_length-le l {i = suc i} (omega arith) in
-      let all : take i l ≡ t = sym (append-nil (take i l)) ∙ (rw (add-one i, none) at inv) in
-      set_split l i z (omega arith) ∙ ap (λ (k : List A). take i l ++ (z ∷ k)) none ∙ ap (λ (k : List A). k ++ (z ∷ [])) all
 
 -- an array with its place k taken out, and with that place set
 pub cut_pad : {A : Type 0} (N : ℕ) (z : A) (l : List A) (k : ℕ) → length l ≤ N → k < length l

@@ -1,5 +1,5 @@
 -- The laws of lists of tests. Assumes nothing.
-use mathlib.Core.Path.{◌≡◌, refl, sym, ap, ap₂, ◌∙◌}
+use mathlib.Core.Path.{◌≡◌, refl, sym, ap, ◌∙◌}
 use mathlib.Core.Bool.{Bool, true, false, not, cond, ◌&&◌, ◌||◌, and_assoc, and-true, or_assoc, or-false, true≢false}
 use mathlib.Core.Logic.{inl, inr}
 use mathlib.Core.List.{List, [], ◌∷◌, ◌++◌, map}
@@ -8,7 +8,7 @@ use native.Mathlib.Omega.{arith}
 use borrow.Author.Tests.{not-true, ltb-true, eqb-true, eqb-false, eq-eqb, ne_eqb}
 use lib.Dec.{ltb, eqb}
 use lib.ListN.{get_or}
-use Rattle.lists.specs.Tests.{all_of, any_of, first_of, or_if}
+use Rattle.lists.specs.Tests.{all_of, any_of, first_of}
 use Rattle.lists.specs.Lists.{any}
 use Rattle.lists.specs.Members.{In}
 use Rattle.lists.proofs.Bools.{and_left_lem, and_right, or_left_lem, or_right}
@@ -154,32 +154,3 @@ pub any_chain : (t : Bool) (ts : List Bool) → or_left t ts ≡ any_of (t ∷ t
 unfolding any_of
 any_chain t [] = sym (or-false t)
 any_chain t (u ∷ ts) = any_chain (t || u) ts ∙ or_assoc t u (any_of ts)
-
--- ---- a chain of checks, each of which looks at what the one before found, is the order of checks
-
-abbrev pub first_left : ℕ → List (ℕ × Bool) → ℕ
-first_left r [] = r
-first_left r (c ∷ cs) = first_left (or_if r c.0 c.1) cs
-
-first_left_lem : (r : ℕ) (cs : List (ℕ × Bool)) → numbered cs ≡ true → first_left r cs ≡ cond (eqb r 0) (first_of cs) r
-unfolding or_if
-first_left_lem r [] n = go (eqb r 0) refl
-  where
-    go : (t : Bool) → eqb r 0 ≡ t → r ≡ cond t 0 r
-    go true e = eqb-true r 0 e
-    go false e = refl
-first_left_lem r (c ∷ cs) n = first_left_lem (or_if r c.0 c.1) cs (and_right (ltb 0 c.0) (numbered cs) n) ∙ go (eqb r 0) refl c.1
-  where
-    go : (t : Bool) → eqb r 0 ≡ t → (p : Bool) → cond (eqb (cond t (cond p c.0 0) r) 0) (first_of cs) (cond t (cond p c.0 0) r) ≡ cond t (cond p c.0 (first_of cs)) r
-    go true e true =
-        let z : 0 < c.0 = ltb-true 0 c.0 (and_left_lem (ltb 0 c.0) (numbered cs) n) in
-        ap (λ (t : Bool). cond t (first_of cs) c.0) (ne_eqb c.0 0 (λ q. let w : c.0 ≡ 0 = q in absurd (omega arith)))
-    go true e false = refl
-    go false e p = ap (λ (t : Bool). cond t (first_of cs) r) e
-
-pub first_chain : (cs : List (ℕ × Bool)) → numbered cs ≡ true → first_left 0 cs ≡ first_of cs
-first_chain cs n = first_left_lem 0 cs n
-
--- one check of the chain, with what it found before and its test by their definitions
-pub or_step : {r found' : ℕ} {t' : Bool} (found k : ℕ) (t : Bool) → r ≡ or_if found k t → found ≡ found' → t ≡ t' → r ≡ or_if found' k t'
-or_step found k t e f g = e ∙ ap₂ (λ (x : ℕ) (y : Bool). or_if x k y) f g

@@ -1,12 +1,9 @@
 -- Loops over the places of an array: that its first places rise, that the others are unused, and that a list is written into it. Assumes nothing.
-use mathlib.Core.Path.{◌≡◌, refl, sym, ap, ap₂, ◌∙◌}
-use mathlib.Core.Bool.{Bool, true, false, not, ◌&&◌, ◌||◌}
-use mathlib.Core.List.{List, [], ◌∷◌}
+use mathlib.Core.Path.{◌≡◌, refl, ap, ap₂, ◌∙◌}
+use mathlib.Core.Bool.{Bool, true, false, ◌&&◌}
+use mathlib.Core.List.{List}
 use Prim.Native.Nat.{ℕ, ◌+◌, ◌≤◌, ◌<◌}
 use native.Mathlib.Numerals.{add-one}
-use native.Mathlib.Omega.{arith}
-use borrow.Author.Tests.{ne_eqb, not-true, not-false}
-use lib.Dec.{eqb}
 use lib.ListN.{length, drop, get_or, set, length-set}
 use lib.Seq.{paste, paste-zero, paste-suc}
 use Rattle.lists.specs.Lists.{all, rising, rising_from}
@@ -20,21 +17,6 @@ module _ {A : Type 0} (r : A → A → Bool) where
   rises_after true w l = rising r l
   rises_after false w l = rising_from r w l
 
-  -- ok is what a turn finds
-  turn : {left rest : List A} {x : A} {t : Bool} (first b ok : Bool) (w : A) → left ≡ x ∷ rest → rises_after first w left ≡ t → b ≡ r w x → (first || b) ≡ ok
-      → (ok && rising_from r x rest) ≡ t
-  turn true b ok w s inv e q = rw (← q) (rw s at inv)
-  turn false b ok w s inv e q = rw (← q, e) (rw s at inv)
-
-  pub rises_turn : {left rest : List A} {x : A} {t : Bool} (i : ℕ) (b ok : Bool) (w : A) → left ≡ x ∷ rest → rises_after (eqb i 0) w left ≡ t → b ≡ r w x
-      → (eqb i 0 || b) ≡ ok → (ok && rises_after (eqb (i + 1) 0) x rest) ≡ t
-  rises_turn {rest = rest} {x = x} i b ok w s inv e q =
-      ap (λ (z : Bool). ok && rises_after z x rest) (ne_eqb (i + 1) 0 (λ q. omega arith)) ∙ turn (eqb i 0) b ok w s inv e q
-
-  pub rises_end : {left : List A} {t : Bool} (first : Bool) (w : A) → left ≡ [] → rises_after first w left ≡ t → t ≡ true
-  rises_end true w s inv = sym (rw s at inv)
-  rises_end false w s inv = sym (rw s at inv)
-
 -- ---- a loop that tests every place from n on
 
 -- ok is what was found before the place i, and the places from i on are left to test
@@ -42,22 +24,11 @@ pub record Tested {A : Type 0} (p : A → Bool) (l : List A) (n : ℕ) (ok : Boo
   pub left : (ok && all p (drop i l)) ≡ all p (drop n l)
 
 module _ {A : Type 0} {p : A → Bool} {l : List A} {n i : ℕ} where
-  pub tested_start : i ≡ n → Tested p l n true i
-  tested_start e = record { left = ap (λ (k : ℕ). all p (drop k l)) e }
-
   pub tested_turn : (z : A) {ok b : Bool} → Tested p l n ok i → i < length l → b ≡ p (get_or l i z) → Tested p l n (ok && b) (i + 1)
   tested_turn z {ok} {b} s h e = record { left = all_turn p ok b (left_next l z i h) s.left e }
 
   pub tested_end : {ok : Bool} → Tested p l n ok i → length l ≤ i → ok ≡ all p (drop n l)
   tested_end {ok} s h = all_end p ok (left_none l i h) s.left
-
-  -- the loop goes on only while each test passes
-  module _ (z : A) (s : Tested p l n true i) (h : i < length l) {b : Bool} (e : b ≡ p (get_or l i z)) where
-    pub tested_miss : not b ≡ true → all p (drop n l) ≡ false
-    tested_miss q = sym (tested_turn z s h (sym (not-true b q) ∙ e)).left
-
-    pub tested_more : not b ≡ false → Tested p l n true (i + 1)
-    tested_more q = tested_turn z s h (sym (not-false b q) ∙ e)
 
 -- ---- a loop that writes the elements of b into a list, from the place at on
 

@@ -1,5 +1,5 @@
 -- Lists of tests. Assumes nothing.
-use Rattle.std.specs.Prelude.{Bool, true, false, cond, ◌&&◌, ◌||◌, List, [], ◌∷◌, ℕ, eqb}
+use Rattle.std.specs.Prelude.{Bool, true, false, cond, ◌&&◌, ◌||◌, List, [], ◌∷◌, ℕ}
 
 -- every test of the list passes
 unfoldable pub all_of : List Bool → Bool
@@ -15,7 +15,3 @@ any_of (t ∷ ts) = t || any_of ts
 abbrev pub first_of : List (ℕ × Bool) → ℕ
 first_of [] = 0
 first_of (c ∷ cs) = cond c.1 c.0 (first_of cs)
-
--- one check more of an order of checks: what was found so far, or where that is 0 the number of a test that passes
-unfoldable pub or_if : ℕ → ℕ → Bool → ℕ
-or_if found number test = cond (eqb found 0) (cond test number 0) found

@@ -14,7 +14,7 @@ pub record Starts (out : MutBor (List ℕ)) (w : Writer) : Type 0 where
 abbrev pub last : ℕ
 last = 18_446_744_073_709_551_615
 
--- a writer whose numbers the machine holds, as it does of every one
+-- a writer whose numbers fit in 64 bits, as those of every one do
 pub record Counts (w : Writer) : Type 0 where
   pub place : w.at ≤ last
   pub long : length w.out.now ≤ last

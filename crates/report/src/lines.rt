@@ -1,7 +1,7 @@
 // The lines of the report.
 ghost use Rattle.std.specs.Prelude.{◌≡◌};
-ghost use Rattle.schedule.specs.Calls.{numbers};
-ghost use Rattle.engine.specs.Calls.{says, outcome_in};
+ghost use Rattle.schedule.specs.Calls.{numbers, says};
+ghost use Rattle.engine.specs.Calls.{outcome_in};
 ghost use Rattle.engine.specs.Inside.{InPlaces};
 ghost use Rattle.report.specs.Text.{order_text, held_text, delivery_line, start_line, outcome_text, refused_text};
 ghost use Rattle.report.specs.Text.{text as text_of};
@@ -12,7 +12,7 @@ use crate::writers::Writer;
 use engine::{Delivery, Outcome};
 use host::Held;
 use orders::Order;
-use schedule::{Refusal, number_of};
+use schedule::Refusal;
 
 // The line of a refused file, or all lines of a run.
 pub(crate) fn text(w: &mut Writer<'_>, ran: &Result<Outcome, Refusal>)
@@ -29,7 +29,7 @@ pub(crate) fn text(w: &mut Writer<'_>, ran: &Result<Outcome, Refusal>)
 fn refused(w: &mut Writer<'_>, refusal: Refusal)
     ensures { Wrote w.old (refused_text (numbers refusal)) w.new }
 {
-    w.item(b"refused ", number_of(refusal) as u64);
+    w.item(b"refused ", u64::from(u8::from(refusal)));
     if let Refusal::OutsideRules(index) = refusal {
         w.item(b" ", index as u64);
     }

@@ -1,4 +1,4 @@
-// Runs of lines: of the starts, of the hosts, of a host's deliveries. By index, since the front of a struct's array of structs loses its length.
+// Runs of lines: of the starts, of the hosts, of a host's deliveries. By index: of `&entries[..count]` the proof knows no length.
 ghost use Rattle.std.specs.Prelude.{◌≤◌};
 ghost use Rattle.engine.specs.Inside.{InPlaces};
 ghost use Rattle.report.specs.Text.{starts_text, host_text, hosts_text};

@@ -59,10 +59,13 @@ read_one bs r s x y =
     ∙ ap (answer_of (says s)) (one_result x.1 y.1)
     ∙ answer_back s
 
-pub number_of_one : (a : Refusal) (m n : ℕ) → m ≡ (numbers a).0 → n ≡ (numbers a).0 → m ≡ n
+pub refusal_number_one : (a : Refusal) (m n : ℕ) → m ≡ (numbers a).0 → n ≡ (numbers a).0 → m ≡ n
+refusal_number_one a m n = one_result
+
+pub number_of_one : {A : Type 0} (a : Result A Refusal) (m n : ℕ) → m ≡ (says a).0 → n ≡ (says a).0 → m ≡ n
 number_of_one a m n = one_result
 
-pub index_of_one : (a : Refusal) (m n : ℕ) → m ≡ (numbers a).1 → n ≡ (numbers a).1 → m ≡ n
+pub index_of_one : {A : Type 0} (a : Result A Refusal) (m n : ℕ) → m ≡ (says a).1 → n ≡ (says a).1 → m ≡ n
 index_of_one a m n = one_result
 
 pub from_one : (p : PlanRefusal) (r s : Refusal) → r ≡ Plan p → s ≡ Plan p → r ≡ s

@@ -1,10 +1,12 @@
--- A test at some number of a range, as std's iterators have it. Assumes nothing.
+-- A test at some number of a range, and the order of numbers, as std has them. Assumes nothing.
 use mathlib.Core.Path.{◌≡◌, refl, sym, ap, ◌∙◌}
-use mathlib.Core.Bool.{Bool, true, false, ◌||◌}
+use mathlib.Core.Bool.{Bool, true, false, ◌||◌, cond}
 use Prim.Native.Nat.{ℕ, zero, suc, ◌+◌}
 use native.Mathlib.Nat.{add-zero}
 use native.Mathlib.Omega.{arith}
+use lib.Dec.{ltb, eqb}
 use Rattle.std.specs.List.{range_with_len, list_any}
+use Rattle.std.proofs.Common.{Less, Equal, Greater, is_lt, nat_cmp}
 use Rattle.lists.specs.Searches.{some}
 use Rattle.lists.proofs.SearchLaws.{some_same}
 
@@ -30,3 +32,15 @@ any_range f a (suc n) =
 
 pub any_below : (f : ℕ → Bool) (n : ℕ) → list_any f (range_with_len 0 n) ≡ some n f
 any_below f n = any_range f 0 n ∙ some_same n _ _ (λ i h. let e : 0 + i ≡ i = omega arith in ap f e)
+
+-- an order of ticks is that of their numbers
+pub earlier_lem : (x y : ℕ) → is_lt (nat_cmp x y) ≡ ltb x y
+earlier_lem x y = go (ltb x y)
+  where
+    go : (t : Bool) → is_lt (cond t Less (cond (eqb x y) Equal Greater)) ≡ t
+    go true = refl
+    go false = last (eqb x y)
+      where
+        last : (t : Bool) → is_lt (cond t Equal Greater) ≡ false
+        last true = refl
+        last false = refl

@@ -11,7 +11,6 @@ use lib.Dec.{leb, eqb}
 use lib.ListN.{length, get_or}
 use Rattle.lists.specs.Searches.{count, each}
 use Rattle.lists.proofs.CountLaws.{count_start, count_next, count_le}
-use Rattle.lists.proofs.SearchLaws.{least_bound}
 use Rattle.lists.proofs.TestLaws.{all_each}
 use Rattle.fields.specs.Fields.{stated_at}
 use Rattle.schedule.specs.Shape.{place, records, tagged, links, starts, right_at, right, is_schedule}
@@ -89,15 +88,8 @@ module _ (bs : List ℕ) where
 
   -- ---- how many there are
 
-  pub records_few : records bs ≤ length bs
-  unfolding records
-  records_few = least_bound (length bs) (λ (k : ℕ). leb (length bs) (place bs k))
-
   pub links_few : links bs ≤ records bs
   links_few = count_le (records bs) (tagged bs 17)
-
-  pub starts_few : starts bs ≤ records bs
-  starts_few = count_le (records bs) (tagged bs 21)
 
   -- ---- what the shape says
 

@@ -43,8 +43,8 @@ numbers (Plan r) = (number r, 0)
 numbers (OutsideRules k) = (32, k)
 
 -- those of what reading returns, "zero elsewhere"
-abbrev pub says : Result Schedule Refusal → ℕ × ℕ
-says (Ok s) = (0, 0)
+abbrev pub says : {A : Type 0} → Result A Refusal → ℕ × ℕ
+says (Ok x) = (0, 0)
 says (Err r) = numbers r
 
 -- and its schedule

@@ -28,6 +28,7 @@ pub struct Start {
     pub order: Order,
 }
 
+// No heap: places and a count.
 #[derive(Clone, Copy)]
 pub struct Schedule {
     pub plan: Plan,
@@ -37,7 +38,7 @@ pub struct Schedule {
     pub end: Tick,
     pub start_count: usize,
     pub starts: [Start; 16],
-    pub delays: [u8; 384], // of each copy, by start, link and direction; 0 is lost
+    pub delays: [u8; 384], // of each copy, by start, link and direction; 0 is lost: a number, as definition schedule_read has it
 }
 
 // Why bytes are refused.

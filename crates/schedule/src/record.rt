@@ -7,7 +7,7 @@ ghost use Rattle.schedule.specs.Schedule.{tick_at, copy_at};
 
 use clock::Tick;
 
-// The tags, in the order in which they stand.
+// The tags, in the order in which they stand. Numbers: bytes may have any tag, and an enum would need a case for the rest.
 pub(crate) const PLAN: u8 = 16;
 
 pub(crate) const LINK: u8 = 17;

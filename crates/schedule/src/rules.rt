@@ -83,7 +83,7 @@ impl Terms {
     {
         let tick = step.here.tick();
         let last = step.last.tick();
-        (tick.0 > self.end.0) | ((step.last.tag() == START) & (tick.0 < last.0))
+        (self.end < tick) | ((step.last.tag() == START) & (tick < last))
     }
 
     // A delay above δ, a lost copy where nothing is faulty, or a fate not above the one that it follows.

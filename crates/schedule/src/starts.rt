@@ -1,5 +1,5 @@
 // The starts of a schedule.
-ghost use Rattle.std.specs.Prelude.{◌≡◌, ◌+◌, ◌≤◌};
+ghost use Rattle.std.specs.Prelude.{◌≡◌, ◌+◌};
 ghost use Rattle.lists.specs.Bytes.{val_at};
 ghost use Rattle.orders.specs.Orders.{order_at};
 ghost use Rattle.schedule.specs.Schedule.{start_at, starts_of, first_start};

@@ -13,7 +13,7 @@ pub(crate) fn found(rt: &impl Print, f: Result<Schedule, Refusal>) -> io::Result
 
 fn refused(rt: &impl Print, refusal: Refusal) -> io::Result<()> {
     print!(rt; "refused")?;
-    number(rt, schedule::number_of(refusal) as u64)?;
+    number(rt, u64::from(u8::from(refusal)))?;
     if let Refusal::OutsideRules(index) = refusal {
         number(rt, index as u64)?;
     }

@@ -1,11 +1,14 @@
 -- The lengths of what is written, and numbers put at the front of a lent list. Assumes nothing.
-use mathlib.Core.Path.{◌≡◌, refl, ap}
+use mathlib.Core.Path.{◌≡◌, refl, sym, ap, ◌∙◌}
 use mathlib.Core.Bool.{Bool, true, false, cond}
-use mathlib.Core.List.{List, ◌++◌}
-use Prim.Native.Nat.{ℕ, ◌≤◌}
+use mathlib.Core.List.{List, [], ◌∷◌, ◌++◌, append_assoc}
+use Prim.Native.Nat.{ℕ, ◌+◌, ◌≤◌, ◌<◌}
 use native.Mathlib.Omega.{arith}
+use Rattle.lists.proofs.Loops.{left_next}
+use lib.Seq.{length-take-le, take-suc, set_at}
+use native.Mathlib.Numerals.{add-one}
 use lib.Dec.{ltb, eqb}
-use lib.ListN.{length, drop}
+use lib.ListN.{length, take, drop, get_or, set}
 use Rattle.host.specs.Answers.{unless}
 use Rattle.message.specs.declared.Message.{Message}
 use Rattle.message.specs.Layout.{layout}
@@ -49,3 +52,12 @@ module _ (rules : ℕ) (bs out : List ℕ) (said : ℕ × Found) (e : said ≡ r
 pub unless_test : {A : Type 0} (b : Bool) (x y : A) → cond b y x ≡ unless (cond b 22 0) x y
 unless_test true x y = refl
 unless_test false x y = refl
+
+pub put_next : (l out : List ℕ) (i : ℕ) → i < length l → i < length out → set (take i l ++ drop i out) i (get_or l i 0) ≡ take (i + 1) l ++ drop (i + 1) out
+put_next l out i h k =
+    let x : ℕ = get_or l i 0 in
+    let more : take (i + 1) l ≡ take i l ++ (x ∷ []) = rw add-one (take-suc l i 0 h) in
+    ap (λ (t : List ℕ). set (take i l ++ t) i x) (left_next out 0 i k)
+    ∙ set_at (take i l) (get_or out i 0) (drop (i + 1) out) x i (length-take-le i l (omega arith))
+    ∙ sym (append_assoc (take i l) (x ∷ []) (drop (i + 1) out))
+    ∙ ap (λ (t : List ℕ). t ++ drop (i + 1) out) (sym more)

@@ -1,5 +1,5 @@
 // Messages and replays, which need no memory of ours: their bytes are lent.
-ghost use Rattle.std.specs.Prelude.{◌≡◌, ◌++◌, cond, ltb, length, drop};
+ghost use Rattle.std.specs.Prelude.{◌≡◌, ◌++◌, cond, ◌≤◌, ltb, length, drop};
 ghost use Rattle.message.specs.Calls.{written, written_to};
 ghost use Rattle.report.specs.Calls.{reported, told, left};
 ghost use Rattle.service.specs.Memory.{message_from};
@@ -53,7 +53,7 @@ fn put_found(found: Found, out: &mut [u64]) -> u64
     }
     let message = found.message;
     let order = message.order;
-    out[..8].copy_from_slice(&[
+    let numbers = [
         message.stamp.0,
         u64::from(message.source),
         u64::from(message.hop),
@@ -62,8 +62,19 @@ fn put_found(found: Found, out: &mut [u64]) -> u64
         u64::from(orders::share(order)),
         found.start as u64,
         found.size as u64,
-    ]);
+    ];
+    put_numbers(numbers, out);
     0
+}
+
+fn put_numbers(numbers: [u64; 8], out: &mut [u64])
+    requires { 8 ≤ length out.old }
+    ensures { out.new ≡ numbers ++ drop 8 out.old }
+{
+    // copy_from_slice is slower here: the numbers then stand in memory first.
+    for (i, number) in numbers.iter().enumerate() {
+        out[i] = *number;
+    }
 }
 
 // Replays a schedule and writes the report's text; answers its length above the refusal's byte.

@@ -1,5 +1,5 @@
 // The table of the board: each order on image 7, where it is absent, offered 30, halted 30 and halted 0.
-use board::{Board, Place, Stand};
+use board::{Board, NO_PLACE, Place, Stand};
 use orders::Order;
 use std::io;
 
@@ -32,16 +32,8 @@ fn row(rt: &impl Print, name: &str, order: Order) -> io::Result<()> {
 fn cell(rt: &impl Print, before: Board, order: Order) -> io::Result<()> {
     let applied = board::after_order(before, order);
     match applied.answer {
-        Ok(()) => standing(rt, applied.board.places[0].stand),
+        Ok(()) => print!(rt; "{}", applied.board.places[0].stand),
         Err(refusal) => print!(rt; "refusal {}", u8::from(refusal)),
-    }
-}
-
-fn standing(rt: &impl Print, stand: Stand) -> io::Result<()> {
-    match stand {
-        Stand::Absent => print!(rt; "absent"),
-        Stand::Offered(share) => print!(rt; "offered {share}"),
-        Stand::Halted(share) => print!(rt; "halted {share}"),
     }
 }
 
@@ -56,9 +48,6 @@ fn only(stand: Stand) -> Board {
 fn empty() -> Board {
     Board {
         count: 0,
-        places: [Place {
-            image: 0,
-            stand: Stand::Absent,
-        }; 16],
+        places: [NO_PLACE; 16],
     }
 }

@@ -1,7 +1,8 @@
 -- What is left to look at is the list; each turn looks at its first. Assumes nothing.
 use native.Mathlib.Nat.{le_refl}
 use Rattle.std.proofs.Common.{rules, ◌≡◌, sym, ap, ◌∙◌, true, false, length, ◌+◌, subst}
-use Rattle.lists.proofs.Looks.{Looked, look_all, look_found, look_passed}
+use Rattle.lists.proofs.Looks.{Looked, look_all}
+use Rattle.host.proofs.Looking.{look_found, look_passed}
 use Rattle.host.specs.declared.Seen.{Seen}
 use Rattle.orders.specs.Orders.{same_order}
 use Rattle.host.specs.State.{same_name}
