@@ -124,10 +124,7 @@ fn delivered(answer: Result<usize, Refusal>) -> u64 {
 fn sent(answer: Result<Sent, Refusal>) -> u64
     ensures { result < 65536 }
 {
-    match answer {
-        Ok(sent) => u64::from(sent.links),
-        Err(_) => 0,
-    }
+    answer.map_or(0, |sent| u64::from(sent.links))
 }
 
 fn show(rt: &impl Print, answer: Result<Sent, Refusal>) -> io::Result<()> {

@@ -1,6 +1,7 @@
 // The networks of the table: the cube, whose hosts have three links each, and the octahedron, whose hosts have four.
 use network::{Link, Plan};
 
+// As in worked: no program can stand on another, and to share it would take one more library.
 pub(crate) fn cube(faulty_hosts: u8, faulty_links: u8) -> Plan {
     let edges = [
         (0, 1),

@@ -28,6 +28,7 @@ pub(crate) fn network(number: u8) -> Plan {
     p
 }
 
+// As in worked and network_cases: no program can stand on another, and to share it would take one more library.
 fn triangle() -> Plan {
     let mut links = [NO_LINK; 12];
     links[0] = Link { a: 0, b: 1 };

@@ -5,7 +5,7 @@ use crate::calls::{Call, Part, run, zero};
 use clock::Reading;
 use host::Held;
 use network::Link;
-use orders::order_of;
+use orders::{Order, order_of};
 use std::io::Read;
 use std::{io, str};
 
@@ -34,10 +34,9 @@ fn row(line: &str) -> Option<[u64; 9]> {
 
 // The call is 0 to make, 1 to start, 2 to receive, 3 to tick; 4 to 15 set a part of the state, and 16 fills the history.
 fn call(row: [u64; 9]) -> Call {
-    let [call, u, arrival, hop, stamp, source, kind, image, share] = row;
+    let [call, u, arrival, hop, stamp, source, kind, _, share] = row;
     let u = Reading(u);
-    let order = order_of(small(kind), (image % 4_294_967_296) as u32, small(share));
-    let at = (source % 4) as usize;
+    let order = order(row);
     match call {
         0 => Call::Make {
             network: small(source),
@@ -59,39 +58,44 @@ fn call(row: [u64; 9]) -> Call {
             u,
             room: (stamp % 601) as usize,
         },
-        4 => Call::Set(Part::D(small(stamp))),
-        5 => Call::Set(Part::Bound(stamp)),
-        6 => Call::Set(Part::Own(small(stamp))),
-        7 => Call::Set(Part::Rules(small(stamp))),
-        8 => Call::Set(Part::Last(Reading(stamp))),
-        9 => Call::Set(Part::Started((stamp % 9) as usize)),
-        10 => Call::Set(Part::HeldCount((stamp % 40) as usize)),
-        11 => Call::Set(Part::Start(at, Reading(stamp))),
-        12 => Call::Set(Part::Entry(
-            at,
-            Held {
-                stamp: u,
-                source: small(hop),
-                order,
-            },
-        )),
-        13 => Call::Set(Part::Joined(
-            at,
-            Link {
-                a: small(stamp),
-                b: 2,
-            },
-        )),
-        14 => Call::Set(Part::Skew(small(stamp))),
-        15 => Call::Set(Part::Joined(
-            11,
-            Link {
-                a: 0,
-                b: small(stamp),
-            },
-        )),
+        4..=15 => Call::Set(part(row)),
         _ => Call::Fill(stamp % 40),
     }
+}
+
+fn part(row: [u64; 9]) -> Part {
+    let [call, u, _, hop, stamp, source, ..] = row;
+    let at = (source % 4) as usize;
+    match call {
+        4 => Part::D(small(stamp)),
+        5 => Part::Bound(stamp),
+        6 => Part::Own(small(stamp)),
+        7 => Part::Rules(small(stamp)),
+        8 => Part::Last(Reading(stamp)),
+        9 => Part::Started((stamp % 9) as usize),
+        10 => Part::HeldCount((stamp % 40) as usize),
+        11 => Part::Start(at, Reading(stamp)),
+        12 => Part::Entry(
+            at,
+            Held {
+                stamp: Reading(u),
+                source: small(hop),
+                order: order(row),
+            },
+        ),
+        13 => Part::Joined(at, link(small(stamp), 2)),
+        14 => Part::Skew(small(stamp)),
+        _ => Part::Joined(11, link(0, small(stamp))),
+    }
+}
+
+fn order(row: [u64; 9]) -> Order {
+    let [.., kind, image, share] = row;
+    order_of(small(kind), (image % 4_294_967_296) as u32, small(share))
+}
+
+fn link(a: u8, b: u8) -> Link {
+    Link { a, b }
 }
 
 fn small(number: u64) -> u8 {

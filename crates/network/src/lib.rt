@@ -25,7 +25,8 @@ pub struct Link {
 // What a place past the last holds.
 pub const NO_LINK: Link = Link { a: 0, b: 0 };
 
-// The network, and what it is planned to bear. Of the 12 places the first `link_count` hold links; planning does not look at the others.
+// The network, and what it is planned to bear. Of the 12 places the first `link_count` hold links (no heap: places and a count); planning does
+// not look at the others.
 #[repr(C)]
 #[derive(Clone, Copy)]
 pub struct Plan {

@@ -1,18 +1,18 @@
 // Sets of pairs of hosts as numbers: bit 8a + b for the pair of a and b.
 ghost use Rattle.std.specs.Prelude.{◌&&◌, ◌||◌, ◌<◌, ◌≤◌, eqb, ltb};
-ghost use Rattle.network.specs.Inside.{Small, Pairs, joins, linked};
+ghost use Rattle.network.specs.Inside.{Pairs, joins, linked};
 
-use crate::{Link, Plan};
+use crate::Link;
+use crate::proper::ProperPlan;
 
 // Each host with itself.
 pub(crate) const ITSELF: u64 = 0x8040_2010_0804_0201;
 
 // The pairs that a link joins.
-pub(crate) fn joined(p: Plan) -> u64
-    requires { Small p }
-    ensures { Pairs result (linked p) }
+pub(crate) fn joined(p: ProperPlan) -> u64
+    ensures { Pairs result (linked p.plan) }
 {
-    let links = &p.links[..p.link_count as usize];
+    let links = &p.plan.links[..p.plan.link_count as usize];
     let mut pairs: u64 = 0;
     for link in links {
         pairs |= ends(*link);

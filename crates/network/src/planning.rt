@@ -2,7 +2,7 @@
 ghost use Rattle.std.specs.Prelude.{◌≡◌, Some};
 ghost use Rattle.network.specs.Network.{planned, says, number, words, timing};
 
-use crate::proper::{has_bad_link, in_range};
+use crate::proper::{ProperPlan, has_bad_link, in_range};
 use crate::rules::{bound, window};
 use crate::worst::worst_of;
 use crate::{Bounds, Plan, PlanRefusal, Timing};
@@ -18,7 +18,7 @@ pub fn plan(p: Plan) -> Result<Bounds, PlanRefusal>
     if has_bad_link(p) {
         return Err(PlanRefusal::BadLink);
     }
-    let d = worst_of(p);
+    let d = worst_of(ProperPlan { plan: p });
     if d >= p.hosts {
         return Err(PlanRefusal::Parted);
     }

@@ -1,8 +1,16 @@
 // Refusals 1 and 2: the plan's numbers, and its links.
 ghost use Rattle.std.specs.Prelude.{◌≡◌, ◌&&◌, not, ◌≤◌};
 ghost use Rattle.network.specs.Network.{in_range, bad_links};
+ghost use Rattle.network.specs.Inside.{Small};
 
 use crate::Plan;
+
+// A plan that is clear of 1 and 2, and what follows for the searches.
+#[derive(Clone, Copy)]
+pub(crate) struct ProperPlan {
+    pub plan: Plan,
+    ghost small: { Small plan },
+}
 
 // Whether a plan is clear of 1 and 2.
 pub fn is_proper(p: Plan) -> bool

@@ -9,6 +9,7 @@ use crate::sets::is_in;
 use crate::{Faults, Link, NO_LINK, Plan};
 
 // How many of k links are left over when the pairs within reach are all that are wanted; `near` are within reach already.
+// By recursion, as `by_index` has it: each link more shifts the tests by one.
 pub(crate) fn reach(joined: u64, all: u64, near: u64, k: u8) -> u8
     ensures upper_bound { result ≤ k }
     ensures by_index { (t : ℕ → ℕ → ℕ → Bool) → Pairs near (t 0) → Spreads joined t → result + least k (λ i. alike (paired all) (t i)) ≡ k }

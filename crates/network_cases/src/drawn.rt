@@ -70,6 +70,7 @@ fn after(seed: u64, k: u64) -> u64 {
     (0..k).fold(seed, |s, _| next(s))
 }
 
+// As in board_cases: no program can stand on another, and to share it would take one more library.
 fn next(seed: u64) -> u64 {
     (seed % 2147483648 * 1103515245 + 12345) % 2147483648
 }

@@ -88,6 +88,7 @@ fn with_link(p: Plan, at: usize, link: Link) -> Plan
     q
 }
 
+// As in worked and host_cases: no program can stand on another, and to share it would take one more library.
 fn triangle() -> Plan {
     let mut links = [NO_LINK; 12];
     links[0] = Link { a: 0, b: 1 };

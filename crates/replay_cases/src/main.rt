@@ -12,6 +12,7 @@ fn main(rt: HostRuntime) -> io::Result<()> {
     each(&rt, &buffer[..n.min(65536) as usize])
 }
 
+// Cuts as schedule_cases does: no program can stand on another, and to share it would take one more library.
 fn each(rt: &impl Print, bytes: &[u8]) -> io::Result<()> {
     let mut rest = bytes;
     // Each schedule has two bytes at least, so there are fewer of them than bytes.

@@ -18,9 +18,9 @@ loop-link-init c = λ a b ha hb. has_none _ ∙ sym (some_start _)
 
 pub ends-pairs-requires : goal.ends-pairs-requires
 ends-pairs-requires c =
-    let p = c.args.p in
-    let e = c.requires.ends c.loop-link.link-index (is_place p (search rules) _ c.loop-link-test.true) in
-    let hosts = c.requires.hosts in
+    let p = c.args.p.plan in
+    let e = c.args.p.small.ends c.loop-link.link-index (is_place p (search rules) _ c.loop-link-test.true) in
+    let hosts = c.args.p.small.hosts in
     let here = is_link p (search rules) _ c.loop-link-test.true in
     rw here (omega (arith, e.0, e.1), omega (arith, e.1))
 
@@ -28,14 +28,14 @@ pub loop-link-preserved : goal.loop-link-preserved
 loop-link-preserved c =
     λ a b ha hb.
     let s = c.loop-link in
-    let here = is_link c.args.p (search rules) _ c.loop-link-test.true in
+    let here = is_link c.args.p.plan (search rules) _ c.loop-link-test.true in
     has_more s.pairs _ (pair a b)
     ∙ ap₂ (λ (x y : Bool). x || y) (c.ends-pairs.ensures a b ha hb ∙ ap (λ (l : Link). joins l a b) here) (s.invariant a b ha hb)
-    ∙ sym (some_more (λ j. joins (link c.args.p j) a b) s.link-index)
+    ∙ sym (some_more (λ j. joins (link c.args.p.plan j) a b) s.link-index)
 
 pub returns : goal.returns
 unfolding linked
 returns c =
     λ a b ha hb.
     let s = c.loop-link in
-    s.invariant a b ha hb ∙ ap (λ (k : ℕ). some k (λ j. joins (link c.args.p j) a b)) (past_links c.args.p (search rules) _ s.auto.link-index-end c.loop-link-test.false)
+    s.invariant a b ha hb ∙ ap (λ (k : ℕ). some k (λ j. joins (link c.args.p.plan j) a b)) (past_links c.args.p.plan (search rules) _ s.auto.link-index-end c.loop-link-test.false)

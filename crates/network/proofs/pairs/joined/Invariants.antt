@@ -5,4 +5,4 @@ use Rattle.network.specs.Inside.{Pairs, joins}
 use Rattle.network.proofs.pairs.joined.Given as goal
 
 abbrev pub invariant-loop-link : goal.invariant-loop-link
-invariant-loop-link l = Pairs l.pairs (λ a b. some l.link-index (λ j. joins (link l.fn.p j) a b))
+invariant-loop-link l = Pairs l.pairs (λ a b. some l.link-index (λ j. joins (link l.fn.p.plan j) a b))

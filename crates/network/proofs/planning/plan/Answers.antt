@@ -11,8 +11,8 @@ returns-then-not-in_range c = says_out _ (sym c.in_range.ensures ∙ c.if-not-in
 pub returns-then-has_bad_link : goal.returns-then-has_bad_link
 returns-then-has_bad_link c = says_bad _ (sym c.in_range.ensures ∙ c.if-not-in_range.false) (sym c.has_bad_link.ensures ∙ c.if-has_bad_link.true)
 
-pub worst_of-d-requires : goal.worst_of-d-requires
-worst_of-d-requires c = small _ (sym c.in_range.ensures ∙ c.if-not-in_range.false) (sym c.has_bad_link.ensures ∙ c.if-has_bad_link.false)
+pub invariant_of-worst_of : goal.invariant_of-worst_of
+invariant_of-worst_of c = record { small = small _ (sym c.in_range.ensures ∙ c.if-not-in_range.false) (sym c.has_bad_link.ensures ∙ c.if-has_bad_link.false) }
 
 pub returns-then-d-p : goal.returns-then-d-p
 returns-then-d-p c =

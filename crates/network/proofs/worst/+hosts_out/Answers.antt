@@ -16,39 +16,39 @@ unfolding worst_links
 returns-then-i-hs _ c =
     let g = c.args in
     let pre = c.requires in
-    c.links_out.ensures g.hs (all_wanted g.p pre.small g.hs g.survivors pre.pairs_2) (all_joined g.p pre.small g.hs g.links g.survivors pre.pairs pre.pairs_2)
-    ∙ from_zero _ (at_links g.p g.hs)
-    ∙ sym (full g.i (n g.p) (π g.p) g.hs pre.upper c.if-i-hs.true (worst_links g.p))
+    c.links_out.ensures g.hs (all_wanted g.p.plan g.p.small g.hs g.survivors pre.pairs_2) (all_joined g.p.plan g.p.small g.hs g.links g.survivors pre.pairs pre.pairs_2)
+    ∙ from_zero _ (at_links g.p.plan g.hs)
+    ∙ sym (full g.i (n g.p.plan) (π g.p.plan) g.hs pre.upper c.if-i-hs.true (worst_links g.p.plan))
 
 pub hosts_out-d-requires : goal.hosts_out-d-requires
 hosts_out-d-requires _ c =
     let g = c.args in
     let pre = c.requires in
-    let hosts = pre.small.hosts in
-    let s = turn g.i (n g.p) (π g.p) g.hs pre.upper c.if-i-hs.false (omega arith) in
+    let hosts = g.p.small.hosts in
+    let s = turn g.i (n g.p.plan) (π g.p.plan) g.hs pre.upper c.if-i-hs.false (omega arith) in
     let falls-by-one = s.some_left in
-    let left = host_less g.p pre.small g.hs (g.i - 1) _ g.survivors c.with_host.result s.top s.not_in (search rules) pre.pairs_2 c.with_host.ensures in
-    (omega arith, (pre.small, (s.next_with, (pre.pairs, left))))
+    let left = host_less g.p.plan g.p.small g.hs (g.i - 1) _ g.survivors c.with_host.result s.top s.not_in (search rules) pre.pairs_2 c.with_host.ensures in
+    (omega arith, (s.next_with, (pre.pairs, left)))
 
 pub returns-then-d-p : goal.returns-then-d-p
 returns-then-d-p _ c =
     let g = c.args in
-    let hosts = c.requires.small.hosts in
-    let s = turn g.i (n g.p) (π g.p) g.hs c.requires.upper c.if-i-hs.false (omega arith) in
-    stops s (at_hosts g.p) g.p.hosts (at_hosts_bound g.p) c.if-d-p.true c.hosts_out-d.ensures
+    let hosts = g.p.small.hosts in
+    let s = turn g.i (n g.p.plan) (π g.p.plan) g.hs c.requires.upper c.if-i-hs.false (omega arith) in
+    stops s (at_hosts g.p.plan) g.p.plan.hosts (at_hosts_bound g.p.plan) c.if-d-p.true c.hosts_out-d.ensures
 
 pub hosts_out-requires : goal.hosts_out-requires
 hosts_out-requires _ c =
     let g = c.args in
     let pre = c.requires in
-    let hosts = pre.small.hosts in
-    let s = turn g.i (n g.p) (π g.p) g.hs pre.upper c.if-i-hs.false (omega arith) in
+    let hosts = g.p.small.hosts in
+    let s = turn g.i (n g.p.plan) (π g.p.plan) g.hs pre.upper c.if-i-hs.false (omega arith) in
     let falls-by-one = s.some_left in
-    (omega arith, (pre.small, (s.next_without, (pre.pairs, pre.pairs_2))))
+    (omega arith, (s.next_without, (pre.pairs, pre.pairs_2)))
 
 pub returns : goal.returns
 returns _ c =
     let g = c.args in
-    let hosts = c.requires.small.hosts in
-    let s = turn g.i (n g.p) (π g.p) g.hs c.requires.upper c.if-i-hs.false (omega arith) in
-    meets s (at_hosts g.p) c.max.ensures c.hosts_out-d.ensures c.hosts_out.ensures
+    let hosts = g.p.small.hosts in
+    let s = turn g.i (n g.p.plan) (π g.p.plan) g.hs c.requires.upper c.if-i-hs.false (omega arith) in
+    meets s (at_hosts g.p.plan) c.max.ensures c.hosts_out-d.ensures c.hosts_out.ensures

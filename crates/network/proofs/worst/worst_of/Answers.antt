@@ -8,7 +8,7 @@ use Rattle.network.proofs.worst.worst_of.Goals as goal
 
 pub returns : goal.returns
 unfolding worst
-returns c = c.hosts_out.ensures ∙ from_zero _ (at_hosts c.args.p)
+returns c = c.hosts_out.ensures ∙ from_zero _ (at_hosts c.args.p.plan)
 
 pub hosts_out-requires-clause-pairs_2 : goal.hosts_out-requires-clause-pairs_2
-hosts_out-requires-clause-pairs_2 c = all_well c.args.p c.square.result c.square.ensures
+hosts_out-requires-clause-pairs_2 c = all_well c.args.p.plan c.square.result c.square.ensures
