@@ -11,7 +11,8 @@ use clock::Tick;
 use host::{Refusal, Sent};
 use schedule::Schedule;
 
-// The copy at place c is handed to host q. Few places have one at a tick, so the loop over them all calls it.
+// The copy at place c is handed to host q. Not inlined: few places have a copy at a tick, and the loop over all
+// is faster without it.
 #[inline(never)]
 pub(crate) fn hand(
     s: &Schedule,

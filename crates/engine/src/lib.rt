@@ -25,7 +25,7 @@ pub struct Delivery {
     pub what: Held,
 }
 
-// What a host has delivered, in order: the first `count` of the places.
+// What a host has delivered, in order: the first `count` of the places, since there is no heap.
 #[derive(Clone, Copy)]
 pub struct Log {
     pub count: usize,
@@ -39,14 +39,15 @@ pub struct Station {
     pub log: Log,
 }
 
-// The copies: the tick at which each arrives, by start, link and direction, with 0 for none under way; and how many were sent.
+// The copies: the tick at which each arrives, by start, link and direction, with 0 for none under way, as `send` has it; and how
+// many were sent.
 #[derive(Clone, Copy)]
 pub struct Post {
     pub arrivals: [Tick; 384],
     pub copies: usize,
 }
 
-// All that changes in a run. The definitions speak of it; the run keeps its parts.
+// All that changes in a run. The definitions speak of it (`play`); the run keeps its parts, which its loops change one by one.
 #[derive(Clone, Copy)]
 pub struct World {
     pub stations: [Station; 8],
@@ -54,13 +55,14 @@ pub struct World {
     pub refusals: [u8; 16],
 }
 
-// What a run leaves: of the 16 starts the first `starts` are there, of the 8 hosts the first `hosts`.
+// What a run leaves: of the 16 starts the first `starts` are there, of the 8 hosts the first `hosts`, since there is no heap. No ghost field says so: the
+// fields are public, and the clause `in_places` holds it.
 #[derive(Clone, Copy)]
 pub struct Outcome {
     pub bound: u64, // Δ
     pub hosts: u8, // n
     pub starts: usize,
-    pub refusals: [u8; 16], // of each start, and 0 for none
+    pub refusals: [u8; 16], // of each start, and 0 for none, as `outcome` has them
     pub logs: [Log; 8],
     pub copies: usize,
 }

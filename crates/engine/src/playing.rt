@@ -11,9 +11,10 @@ use crate::clocks::clock_of;
 use crate::opening::open;
 use crate::sending::send_all;
 use crate::starting::{is_now as starts_now, refusal_of, tell};
-use crate::ticking::{be_at, is_idle, tick_one};
+use crate::ticking::{be_at, tick_one};
 use crate::{Log, Outcome, Post, Station};
 use clock::Tick;
+use host::is_idle;
 use schedule::Schedule;
 
 // The run of a schedule, to its end.
@@ -32,7 +33,7 @@ pub(crate) fn play_all(s: &Schedule) -> Outcome
         for p in 0..s.plan.hosts {
             let at = p as usize;
             let u = clock_of(s, now, p);
-            if is_idle(&stations[at], u) {
+            if is_idle(&stations[at].host, u) {
                 be_at(&mut stations[at], u);
             } else {
                 tick_one(&mut stations[at], u);

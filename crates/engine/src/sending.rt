@@ -11,7 +11,7 @@ use host::{Refusal, Sent};
 use network::{Link, Plan, is_in};
 use schedule::Schedule;
 
-// The copies of start k that host p sends at a tick, on the links that its host answered. Called as seldom as `hand`.
+// The copies of start k that host p sends at a tick, on the links that its host answered. Not inlined, as `hand`.
 #[inline(never)]
 pub(crate) fn send_all(
     s: &Schedule,
@@ -41,10 +41,7 @@ pub(crate) fn send_all(
 fn links_of(answer: Result<Sent, Refusal>) -> u16
     ensures { result ≡ (says answer).links }
 {
-    match answer {
-        Ok(sent) => sent.links,
-        Err(_) => 0,
-    }
+    answer.map_or(0, |sent| sent.links)
 }
 
 fn place(plan: &Plan, k: usize, p: u8, l: u8) -> usize

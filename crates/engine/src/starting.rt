@@ -35,8 +35,5 @@ pub(crate) fn is_now(start: Start, t: Tick) -> bool
 pub(crate) fn refusal_of(answer: Result<Sent, Refusal>) -> u8
     ensures { result ≡ (says answer).refusal }
 {
-    match answer {
-        Ok(_) => 0,
-        Err(refusal) => number_of(refusal),
-    }
+    answer.err().map_or(0, |refusal| number_of(refusal))
 }

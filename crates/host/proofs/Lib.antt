@@ -3,7 +3,6 @@ pub mod Numbers
 pub mod Sets
 pub mod Blanks
 pub mod Slides
-pub mod Inserts
 pub mod Facts
 pub mod Lists
 pub mod Answered

@@ -1,6 +1,6 @@
 -- std's words for lists, and numbers in bytes, are those of the definitions. Assumes nothing.
 use mathlib.Core.Path.{◌≡◌, refl, sym, ap, ap₂, ◌∙◌}
-use mathlib.Core.Bool.{Bool, true, false, cond, ◌&&◌}
+use mathlib.Core.Bool.{Bool, true, false, ◌&&◌}
 use mathlib.Core.List.{List, [], ◌∷◌, ◌++◌}
 use Prim.Native.Nat.{ℕ, zero, suc, ◌-◌, ◌/◌, ◌%◌, ◌^◌, ◌≤◌, ◌<◌, min}
 use borrow.Author.Tests.{leb-true, leb-false}
@@ -10,18 +10,14 @@ use lib.Seq.{take_all}
 use native.Mathlib.Omega.{arith}
 use native.Mathlib.Nat.{pow-succ', div-div-eq-div-mul}
 use Rattle.std.specs.Int.{byte_at, bytes_high_first}
-use Rattle.std.specs.List.{list_all, filter}
+use Rattle.std.specs.List.{list_all}
 use Rattle.lists.specs.Bytes.{be}
-use Rattle.lists.specs.Lists.{all, keep}
+use Rattle.lists.specs.Lists.{all}
 use Rattle.lists.proofs.Loops.{left_none}
 
 pub all_same : {A : Type 0} (p : A → Bool) (l : List A) → list_all p l ≡ all p l
 all_same p [] = refl
 all_same p (x ∷ l) = ap (λ (t : Bool). p x && t) (all_same p l)
-
-pub keep_same : {A : Type 0} (p : A → Bool) (l : List A) → filter p l ≡ keep p l
-keep_same p [] = refl
-keep_same {A} p (x ∷ l) = ap (λ (t : List A). cond (p x) (x ∷ t) t) (keep_same p l)
 
 -- the places from used on, where there are so many
 pub rest_same : {A : Type 0} (N used m : ℕ) (l : List A) → length l ≡ N → m ≡ min used N → take (N - m) (drop m l) ≡ drop used l

@@ -1,9 +1,10 @@
 -- The promise of each public function admits one result only: the answer, the state that is left, and of a tick the lent list. Assumes nothing.
 use mathlib.Core.Path.{◌≡◌, sym, ap₂, ◌∙◌}
 use Rattle.std.specs.Prelude.{Result}
-use mathlib.Core.Bool.{Bool}
+use mathlib.Core.Bool.{Bool, not, ◌||◌}
 use mathlib.Core.List.{List, map}
 use Prim.Native.Nat.{ℕ, ◌+◌, ◌-◌}
+use lib.Dec.{eqb}
 use lib.ListN.{length, get_or, take}
 use Rattle.lists.specs.Lists.{any, lead, pad}
 use Rattle.lists.proofs.One.{one_result, one_answer, one_call}
@@ -19,7 +20,7 @@ use Rattle.host.specs.declared.Sent.{Sent}
 use Rattle.host.specs.declared.Acted.{Acted}
 use Rattle.host.specs.declared.Ticked.{Ticked}
 use Rattle.host.specs.declared.Refusal.{Refusal}
-use Rattle.host.specs.State.{no_reading, bare, framed, sound, same_name}
+use Rattle.host.specs.State.{no_reading, no_held, bare, framed, sound, same_name}
 use Rattle.host.specs.Inside.{stored}
 use Rattle.host.specs.Entries.{entry_of}
 use Rattle.host.specs.Answers.{number, of_plan, refusal_of, says, says_tick}
@@ -90,6 +91,11 @@ receive_answer_one f u arrival hop x seen = one_answer says send_by send_back
 
 pub tick_answer_one : (f : Frame) (u room count : ℕ) (r s : Result ℕ Refusal) → says_tick r ≡ tick_answer (bare f) u room count → says_tick s ≡ tick_answer (bare f) u room count → r ≡ s
 tick_answer_one f u room count = one_answer says_tick tick_by tick_back
+
+-- nothing is due, of a lent state
+pub is_idle_one : (h : Host) (u : Reading) (r s : Bool)
+    → r ≡ (eqb h.held 0 || not (due h.bound u.0 (get_or h.history 0 no_held))) → s ≡ (eqb h.held 0 || not (due h.bound u.0 (get_or h.history 0 no_held))) → r ≡ s
+is_idle_one h u r s = one_result
 
 -- ---- over a lent state, g and k at exit
 

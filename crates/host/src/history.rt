@@ -1,5 +1,5 @@
 // The history: what is due, and one order more.
-ghost use Rattle.std.specs.Prelude.{◌≡◌, true, ◌+◌, ◌<◌, take, drop, length};
+ghost use Rattle.std.specs.Prelude.{◌≡◌, true, ◌+◌, ◌<◌, drop, length};
 ghost use Rattle.lists.specs.Lists.{all, rising, insert, pad};
 ghost use Rattle.host.specs.State.{no_held, is_no_held, held_of, before, with};
 ghost use Rattle.host.specs.Tick.{due};

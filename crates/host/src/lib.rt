@@ -28,7 +28,7 @@ pub use sound::{is_framed, is_sound};
 pub use starting::{after_start, start_answer};
 pub use starts::{newest, one_more, with_start};
 pub use stored::Stored;
-pub use ticking::{after_tick, tick_answer};
+pub use ticking::{after_tick, is_idle, tick_answer};
 pub use unused::NO_HELD;
 pub use walks::{due_in_front, is_sound_in, look};
 
@@ -40,11 +40,12 @@ pub struct Held {
     pub order: Order,
 }
 
-// A host's state. Of the four places for starts the first `started` are used, oldest first; of the 32 of the history the first `held`.
+// A host's state. There is no heap: of the four places for starts the first `started` are used, oldest first; of the 32 of the
+// history the first `held`.
 #[derive(Clone, Copy)]
 pub struct Host {
     pub plan: Plan,
-    pub rules: u8,
+    pub rules: u8, // a number: make takes any, and refuses all but 1 and 2
     pub d: u8,
     pub bound: u64, // Δ
     pub own: u8,
@@ -55,7 +56,7 @@ pub struct Host {
     pub history: [Held; 32],
 }
 
-// A state but for its history.
+// A state but for its history. Not a part of Host: Host's fields are public, and definitions name them there (`bare`).
 #[derive(Clone, Copy)]
 pub struct Frame {
     pub plan: Plan,
@@ -69,7 +70,7 @@ pub struct Frame {
     pub held: usize,
 }
 
-// What a history holds under an order's name: the same order, another, any.
+// What a history holds under an order's name: the same order, another, any. Three flags, since of a history that is not sound both can hold.
 #[derive(Clone, Copy)]
 pub struct Seen {
     pub same: bool,

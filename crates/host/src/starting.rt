@@ -30,7 +30,7 @@ pub fn start_answer(frame: Frame, u: Reading, order: Order) -> Result<Sent, Refu
     start_checks(frame, u, order)?;
     let plan = frame.plan;
     Ok(Sent {
-        links: links_but(plan, frame.own, NO_LINK),
+        links: links_but(plan, frame.own, NO_ARRIVAL),
         hop: first_hop(frame.rules),
     })
 }
@@ -68,8 +68,8 @@ pub(crate) fn start_held(host: &mut Host, u: Reading, order: Order)
     host.last = u;
 }
 
-// A number that no link has.
-const NO_LINK: u8 = 255;
+// A start came over no link, and no link of at most 12 has this number. A number, as receive has it: arrival is C's byte there.
+const NO_ARRIVAL: u8 = 255;
 
 fn first_hop(rules: u8) -> u8
     ensures { result ≡ cond (eqb rules 2) 1 0 }

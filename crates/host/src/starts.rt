@@ -1,4 +1,4 @@
-// The last four starts, oldest first.
+// The last four starts, oldest first. Places and count are apart, as in Host, whose fields are public, and in C's HostMemory.
 ghost use Rattle.std.specs.Prelude.{◌≡◌, ◌+◌, ◌-◌, ◌≤◌, take, get_or};
 ghost use Rattle.lists.specs.Lists.{all, rising, pad};
 ghost use Rattle.host.specs.State.{no_reading, earlier, not_above};
@@ -21,6 +21,7 @@ pub(crate) fn starts_rise(starts: [Reading; 4], started: usize) -> bool
     requires { started ≤ 4 }
     ensures { result ≡ rising earlier (take started starts) }
 {
+    // is_sorted_by was tried, and is slower.
     let mut ok = true;
     let mut previous = starts[0];
     for (i, s) in starts[..started].iter().enumerate() {

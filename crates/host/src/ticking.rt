@@ -1,10 +1,10 @@
 // Deliver what is due at a reading.
-ghost use Rattle.std.specs.Prelude.{◌≡◌, true, ◌*◌, ◌≤◌, eqb, length, take};
+ghost use Rattle.std.specs.Prelude.{◌≡◌, true, not, ◌||◌, ◌*◌, ◌≤◌, eqb, length, get_or};
 ghost use Rattle.lists.specs.Lists.{pad};
 ghost use Rattle.lists.specs.Tests.{first_of};
 ghost use Rattle.host.specs.State.{no_held, sound, bare};
 ghost use Rattle.host.specs.Answers.{refusal_of, says_tick};
-ghost use Rattle.host.specs.Tick.{due_of, due_in, waiting_in, written, tick_checks, tick_refusal, tick_answer, tick_says, tick_host, tick_list};
+ghost use Rattle.host.specs.Tick.{due, due_of, due_in, waiting_in, written, tick_checks, tick_refusal, tick_answer, tick_says, tick_host, tick_list};
 
 use crate::checks::refuse_if;
 use crate::entries::put_entry;
@@ -72,10 +72,9 @@ pub(crate) fn due_count(host: &Host, u: Reading) -> usize
     due_in_front(held, host.bound, u)
 }
 
-// Whether nothing is due: the first of those held is due before all others.
-fn is_idle(host: &Host, u: Reading) -> bool
-    requires { sound host.now ≡ true }
-    ensures { result ≡ eqb (length (due_of host.now u.0)) 0 }
+// Whether nothing is due, of a sound state: the first of those held is due before all others.
+pub fn is_idle(host: &Host, u: Reading) -> bool
+    ensures { result ≡ (eqb host.now.held 0 || not (due host.now.bound u.0 (get_or host.now.history 0 no_held))) }
 {
     (host.held == 0) | !is_due(host.history[0], host.bound, u)
 }

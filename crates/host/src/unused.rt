@@ -1,7 +1,7 @@
 // Unused places: what they hold, and whether they hold it.
 ghost use Rattle.std.specs.Prelude.{◌≡◌, drop};
 ghost use Rattle.lists.specs.Lists.{all};
-ghost use Rattle.host.specs.State.{no_held, is_no_link, is_no_reading};
+ghost use Rattle.host.specs.State.{is_no_link, is_no_reading};
 
 use crate::Held;
 use clock::Reading;

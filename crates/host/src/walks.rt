@@ -1,4 +1,4 @@
-// The walks over a history, in whatever form it is stored: whether it is that of a sound state, and what is held under a name.
+// The walks over a history, in whatever form it is stored: whether it is that of a sound state, how many are due, and what is held under a name.
 ghost use Rattle.std.specs.Prelude.{◌≡◌, ◌≤◌, length, map};
 ghost use Rattle.lists.specs.Lists.{any, follows, lead};
 ghost use Rattle.clock.specs.Clock.{largest_stamp};
@@ -14,7 +14,7 @@ use crate::{Frame, Held, Seen};
 use clock::{Reading, reached};
 
 // Whether a frame and a history are those of a sound state: one walk, which stops at the first order that fails. Stamps rise, so of the host's own
-// orders the last tells of all; the unused places are gathered into one number.
+// orders the last tells of all; the unused places are gathered into one number, so that they are read with no branch.
 pub fn is_sound_in<E: Stored>(frame: Frame, history: &[E]) -> bool
     ensures { result ≡ sound (stored frame (map E.as_held history.now)) }
 {
@@ -52,14 +52,13 @@ fn may_follow<E: Stored>(previous: Option<E>, e: E) -> bool
     ensures { result ≡ follows (λ x y. before (E.as_held x) (E.as_held y)) previous e }
 {
     match previous {
-        Some(p) => {
-            p.stamp() < e.stamp() || p.stamp() == e.stamp() && p.source() < e.source()
-        }
+        Some(p) => { p.stamp() < e.stamp() || p.stamp() == e.stamp() && p.source() < e.source() }
         None => true,
     }
 }
 
-// One past the stamp of the last order of the host's own, where `end` was so for those before this one: 0 where there is none.
+// One past the stamp of the last order of the host's own, where `end` was so for those before this one: 0 where there is none. Not an
+// Option: this number is the definition's (`past_own`).
 fn past_own<E: Stored>(e: E, own: u8, end: u64) -> u64
     requires { (E.as_held e).stamp.0 ≤ largest_stamp }
     ensures { result ≡ past_own own (E.as_held e) end }

@@ -2,21 +2,16 @@
 ghost use Rattle.std.specs.Prelude.{◌≡◌, ◌-◌, set};
 ghost use Rattle.schedule.specs.Schedule.{delays_of, first_fate};
 
-use crate::record::Record;
 use crate::taking::Records;
 
 impl<'a> Records<'a> {
     pub(crate) fn delays(self) -> [u8; 384]
         ensures { let bs = self.entry.tally.bytes.now in result ≡ delays_of bs (first_fate bs) (self.entry.tally.count - first_fate bs) }
     {
-        let bytes = self.tally.bytes;
         let first = self.tally.links + self.tally.starts + 4;
         let mut delays = [1u8; 384];
-        let mut at = self.record(first - 1).end();
-        for _ in 0..self.tally.count - first {
-            let here = Record { bytes, at };
+        for (_, here) in self.walk(first, self.tally.count - first) {
             set_delay(&mut delays, here.copy(), here.byte(3));
-            at = here.end();
         }
         delays
     }

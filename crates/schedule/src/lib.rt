@@ -7,7 +7,9 @@ mod record;
 mod rules;
 mod shape;
 mod starts;
+mod steps;
 mod taking;
+mod walk;
 
 ghost use Rattle.std.specs.Prelude.{◌≡◌};
 ghost use Rattle.schedule.specs.Calls.{says, found, answered, schedule_read};

@@ -34,6 +34,7 @@ impl Terms {
         let bytes = records.tally.bytes;
         let mut before = 0;
         let mut at = 0;
+        // Not by a `Walk`: a step needs the place before too.
         for k in 0..records.tally.count {
             let here = Record { bytes, at };
             let last = Record { bytes, at: before };

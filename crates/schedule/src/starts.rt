@@ -20,13 +20,9 @@ impl<'a> Records<'a> {
     pub(crate) fn starts(self) -> [Start; 16]
         ensures { let bs = self.entry.tally.bytes.now in result ≡ starts_of bs (first_start bs) self.entry.tally.starts }
     {
-        let bytes = self.tally.bytes;
         let mut starts = [NO_START; 16];
-        let mut at = self.record(self.tally.links + 3).end();
-        for i in 0..self.tally.starts {
-            let here = Record { bytes, at };
+        for (i, here) in self.walk(self.tally.links + 4, self.tally.starts) {
             starts[i] = start_of(here);
-            at = here.end();
         }
         starts
     }

@@ -7,6 +7,7 @@ ghost use Rattle.schedule.specs.Inside.{Judged};
 use crate::Schedule;
 use crate::record::Record;
 use crate::shape::Tally;
+use crate::walk::Walk;
 use network::{Bounds, Faults, Link, NO_LINK, Plan};
 
 // The records of bytes that are a schedule.
@@ -26,10 +27,29 @@ impl<'a> Records<'a> {
     {
         let bytes = self.tally.bytes;
         let mut at = 0;
+        // Not by a `Walk`, which begins where this ends.
         for _ in 0..k {
             at = Record { bytes, at }.end();
         }
         Record { bytes, at }
+    }
+
+    // The records from `first` on, so many of them.
+    pub(crate) fn walk(self, first: usize, count: usize) -> Walk<'a>
+        requires some { 0 < first }
+        requires there { first + count ≤ self.tally.count }
+        ensures bytes { result.bytes.now ≡ self.entry.tally.bytes.now }
+        ensures first { result.first ≡ first }
+        ensures count { result.count ≡ count }
+        ensures fresh { result.i ≡ 0 }
+    {
+        Walk {
+            bytes: self.tally.bytes,
+            first,
+            i: 0,
+            count,
+            at: self.record(first - 1).end(),
+        }
     }
 
     pub(crate) fn plan(self) -> Plan
@@ -50,13 +70,9 @@ impl<'a> Records<'a> {
     fn links(self) -> [Link; 12]
         ensures { result ≡ links_of self.entry.tally.bytes.now self.entry.tally.links }
     {
-        let bytes = self.tally.bytes;
         let mut links = [NO_LINK; 12];
-        let mut at = self.record(0).end();
-        for i in 0..self.tally.links {
-            let here = Record { bytes, at };
+        for (i, here) in self.walk(1, self.tally.links) {
             links[i] = link_of(here);
-            at = here.end();
         }
         links
     }

@@ -6,14 +6,9 @@ use borrow.Author.Tests.{eqb-true}
 use lib.ListN.{length}
 use lib.Seq.{length-take-le}
 use Rattle.host.specs.Tick.{due_of}
-use Rattle.host.proofs.Facts.{tick_is, is_sound}
-use Rattle.host.proofs.Fronts.{idle, none_written}
+use Rattle.host.proofs.Facts.{tick_is}
+use Rattle.host.proofs.Fronts.{first_due, idle, none_written}
 use Rattle.host.proofs.ticking.tick_left.Goals as goal
-
-pub is_idle-requires : goal.is_idle-requires
-is_idle-requires c =
-    let a = c.args in
-    is_sound a.host.now (tick_is a.host.now a.u.0 (length a.out.now) c.requires).sound
 
 pub shared_ref_as_front-held : goal.shared_ref_as_front-held
 shared_ref_as_front-held c =
@@ -36,7 +31,7 @@ returns-then-is_idle c =
     let h = a.host.now in
     let k = tick_is h a.u.0 (length a.out.now) c.requires in
     let n : length h.history ≡ 32 = search rules in
-    let none : length (due_of h a.u.0) ≡ 0 = eqb-true _ _ (sym c.is_idle.ensures ∙ c.if-is_idle.true) in
+    let none : length (due_of h a.u.0) ≡ 0 = eqb-true _ _ (sym (c.is_idle.ensures ∙ first_due h a.u.0 n k.sound) ∙ c.if-is_idle.true) in
     record {
       value = rw c.requires (sym (idle h a.u n k.sound none));
       out_after = rw c.requires (sym (none_written (due_of h a.u.0) a.out.now none));
