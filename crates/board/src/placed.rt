@@ -1,5 +1,5 @@
 // A place of a board, in whatever form it is kept.
-ghost use Rattle.std.specs.Prelude.{◌≡◌};
+ghost use Rattle.std.specs.Prelude.{◌≡◌, refl, true, ◌||◌};
 ghost use Rattle.board.specs.declared.Place.{Place};
 ghost use Rattle.board.specs.Board.{place_fits, is_blank, Placeable};
 
@@ -7,8 +7,10 @@ use crate::sound::absent;
 use crate::{Place, Stand};
 
 pub trait Placed: Copy {
-    // The place that it stands for.
+    // The place that it stands for, and what stands for a place.
     ghost place: { Self → Place };
+
+    ghost of_place: { Place → Self };
 
     fn image(self) -> u32
         ensures { result ≡ (place self).image };
@@ -22,13 +24,20 @@ pub trait Placed: Copy {
     fn is_blank(self) -> bool
         ensures { result ≡ is_blank (place self) };
 
-    // A stand that no board has need not come back.
     fn of(p: Place) -> Self
-        ensures { Placeable p.stand → place result ≡ p };
+        ensures { result ≡ of_place p };
+
+    // A stand that no board has need not come back.
+    ghost comes_back: { (p : Place) → Placeable p.stand → place (of_place p) ≡ p };
+
+    // A place of a sound board has one form.
+    ghost exact: { (x y : Self) → (place_fits (place x) || is_blank (place x)) ≡ true → place x ≡ place y → x ≡ y };
 }
 
 impl Placed for Place {
     ghost place = { λ p. p };
+
+    ghost of_place = { λ p. p };
 
     fn image(self) -> u32 {
         self.image
@@ -53,4 +62,8 @@ impl Placed for Place {
     fn of(p: Place) -> Place {
         p
     }
+
+    ghost comes_back = { λ p may. refl };
+
+    ghost exact = { λ x y fits same. same };
 }

@@ -11,6 +11,7 @@ pub mod Fresh
 pub mod Names
 pub mod Fronts
 pub mod Keeps
+mod Looking
 pub mod Owns
 pub mod Sounds
 pub mod Outcomes

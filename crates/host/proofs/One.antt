@@ -51,6 +51,10 @@ module _ {A : Type 0} (f : A → Held) where
       → (r.same ≡ s.same) × ((r.other ≡ s.other) × (r.named ≡ s.named))
   look_one l x r s a b = (one_result a.0 b.0, (one_result a.1.0 b.1.0, one_result a.1.1 b.1.1))
 
+-- the number that tells an unused place
+pub bits_one : {A : Type 0} (bits_of : A → ℕ) (e : A) (r s : ℕ) → r ≡ bits_of e → s ≡ bits_of e → r ≡ s
+bits_one bits_of e r s = one_result
+
 pub newest_one : (l : List Reading) (k : ℕ) (r s : Reading) → r ≡ get_or l (k - 1) no_reading → s ≡ get_or l (k - 1) no_reading → r ≡ s
 newest_one l k r s = one_result
 

@@ -1,4 +1,5 @@
 pub mod State
+pub mod Bits
 pub mod Inside
 pub mod Entries
 pub mod Answers

@@ -26,7 +26,8 @@ use Rattle.service.specs.declared.HeldMemory.{HeldMemory}
 use Rattle.service.specs.declared.HostMemory.{HostMemory}
 use Rattle.service.specs.Memory.{formed, zeros, order_from, held_from, own_from, host_from, held_memory, host_memory}
 use Rattle.service.specs.Inside.{unused_in, none}
-use Rattle.service.proofs.Forms.{by_form, from_fits, from_blank}
+use Rattle.service.specs.Bits.{by_form, from_blank}
+use Rattle.service.proofs.Forms.{from_fits}
 use Rattle.lists.proofs.Maps.{all_of_lem, all_parts, map_there}
 
 -- ---- a place of a sound state's history holds an order in range, or none

@@ -18,7 +18,7 @@ use Rattle.service.specs.declared.PlaceMemory.{PlaceMemory}
 use Rattle.service.specs.declared.BoardMemory.{BoardMemory}
 use Rattle.service.specs.Memory.{place_from, board_from, place_memory, board_memory}
 use Rattle.service.specs.Calls.{order_left}
-use Rattle.service.proofs.Standing.{standing, place_there}
+use Rattle.service.specs.Stands.{standing, place_there}
 
 pub memory_of : (f : BoardMemory) → sound (board_from f) ≡ true → board_memory (board_from f) ≡ f
 memory_of f e =

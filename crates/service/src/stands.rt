@@ -6,9 +6,12 @@ use crate::PlaceMemory;
 use board::{Place, Placed, Stand};
 
 impl Placed for PlaceMemory {
-    ghost use Rattle.service.specs.Memory.{place_from};
+    ghost use Rattle.service.specs.Memory.{place_from, place_memory};
+    ghost use Rattle.service.specs.Stands.{place_back, one_form};
 
     ghost place = { λ p. place_from p };
+
+    ghost of_place = { place_memory };
 
     fn image(self) -> u32 {
         self.image
@@ -54,6 +57,10 @@ impl Placed for PlaceMemory {
             },
         }
     }
+
+    ghost comes_back = { place_back };
+
+    ghost exact = { one_form };
 }
 
 // What two numbers stand for; those that are no stand's are an image offered to none.

@@ -1,6 +1,6 @@
 // A place of a host's flat history, for the host's own walks and for the search of a place.
-ghost use Rattle.std.specs.Prelude.{◌≡◌, ◌&&◌, eqb};
-ghost use Rattle.service.specs.Memory.{zeros};
+ghost use Rattle.std.specs.Prelude.{◌≡◌};
+ghost use Rattle.service.specs.Bits.{memory_bits, memory_zero, word};
 
 use crate::HeldMemory;
 use crate::orders_in::is_formed;
@@ -12,6 +12,8 @@ impl Stored for HeldMemory {
     ghost use Rattle.service.specs.Memory.{held_from};
 
     ghost as_held = { λ e. held_from e };
+
+    ghost bits_of = { memory_bits };
 
     fn stamp(self) -> Reading {
         self.stamp
@@ -33,11 +35,13 @@ impl Stored for HeldMemory {
     fn bits(self) -> u64 {
         self.stamp.0 | word(self)
     }
+
+    ghost unused = { memory_zero };
 }
 
 // Its bytes but the stamp's as one number, in their order in memory, so that to read it is to load them.
 fn word(e: HeldMemory) -> u64
-    ensures { eqb result 0 ≡ (eqb e.source 0 && zeros e.kind e.image e.share) }
+    ensures { result ≡ word e }
 {
     u64::from(e.image)
         + 4_294_967_296 * u64::from(e.source)

@@ -1,5 +1,5 @@
 -- Each turn tests the first of what is left, and what is left still decides. Behind those in use the unused places are gathered. Assumes nothing.
-use Rattle.std.proofs.Common.{arith, sym, ap, ◌∙◌, take, drop, ◌≡◌}
+use Rattle.std.proofs.Common.{arith, sym, ap, ◌∙◌, take, drop, ◌≡◌, eqb}
 use borrow.Author.Tests.{lt-leb}
 use Rattle.std.proofs.lemmas.List.{take_min, drop_min}
 use Rattle.lists.proofs.Loops.{item_next}
@@ -47,7 +47,7 @@ returns-then-not-is_started g c =
     sym (misses g.E.Stored.as_held c.args.frame c.args.history.now 3 (rw used at (sym started ∙ sym c.is_started.ensures ∙ c.if-not-is_started.true)))
 
 pub loop-e-2-preserved : goal.loop-e-2-preserved
-loop-e-2-preserved g c = gather_turn _ _ _ c.loop-e-2.invariant c.loop-e-2-test.true c.e-item-in-loop-e-2.is c.bits-bits.ensures
+loop-e-2-preserved g c = gather_turn _ _ _ c.loop-e-2.invariant c.loop-e-2-test.true c.e-item-in-loop-e-2.is (ap (λ n. eqb n 0) c.bits-bits.ensures ∙ g.met.E.Stored.unused _)
 
 pub returns : goal.returns
 returns g c =
