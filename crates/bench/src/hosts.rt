@@ -68,10 +68,14 @@ fn tick(rt: &(impl Print + CpuClock), name: &str, h: Host, u: u64, rounds: u64) 
     let mut out = [0u8; 512];
     let told = host::after_tick(h, Reading(u), &mut out).answer;
     print!(rt; "{name}: delivers {}", delivered(told))?;
-    timing::timed(rt, rounds, |round| {
-        let ticked = host::after_tick(h, near(u, round), &mut out);
-        delivered(ticked.answer).wrapping_add(odd(ticked.host.last))
-    })
+    timing::timed(rt, rounds, |round| tick_once(h, near(u, round), &mut out))
+}
+
+fn tick_once(h: Host, u: Reading, out: &mut [u8]) -> u64
+    ensures { result < 65537 }
+{
+    let ticked = host::after_tick(h, u, out);
+    delivered(ticked.answer) + odd(ticked.host.last)
 }
 
 fn start(rt: &(impl Print + CpuClock), name: &str, h: Host, rounds: u64) -> io::Result<()> {
@@ -80,10 +84,14 @@ fn start(rt: &(impl Print + CpuClock), name: &str, h: Host, rounds: u64) -> io::
         rt,
         host::after_start(h, Reading(1000), Order::Halt(7)).answer,
     )?;
-    timing::timed(rt, rounds, |round| {
-        let started = host::after_start(h, near(1000, round), Order::Halt(7));
-        sent(started.answer) + odd(started.host.last)
-    })
+    timing::timed(rt, rounds, |round| start_once(h, near(1000, round)))
+}
+
+fn start_once(h: Host, u: Reading) -> u64
+    ensures { result < 65537 }
+{
+    let started = host::after_start(h, u, Order::Halt(7));
+    sent(started.answer) + odd(started.host.last)
 }
 
 fn receive(
@@ -99,10 +107,15 @@ fn receive(
         host::after_receive(h, Reading(1000), 1, 0, halt(stamp)).answer,
     )?;
     timing::timed(rt, rounds, |round| {
-        let copy = halt(near(stamp, round).0);
-        let received = host::after_receive(h, Reading(1000), 1, 0, copy);
-        sent(received.answer) + odd(received.host.last)
+        receive_once(h, halt(near(stamp, round).0))
     })
+}
+
+fn receive_once(h: Host, copy: Held) -> u64
+    ensures { result < 65537 }
+{
+    let received = host::after_receive(h, Reading(1000), 1, 0, copy);
+    sent(received.answer) + odd(received.host.last)
 }
 
 // One of four readings in turn.
@@ -117,8 +130,10 @@ fn odd(last: Reading) -> u64
     last.0 % 2
 }
 
-fn delivered(answer: Result<usize, Refusal>) -> u64 {
-    answer.unwrap_or(0) as u64
+fn delivered(answer: Result<usize, Refusal>) -> u64
+    ensures { result < 65536 }
+{
+    (answer.unwrap_or(0) % 65536) as u64
 }
 
 fn sent(answer: Result<Sent, Refusal>) -> u64

@@ -1,7 +1,9 @@
 // Planning, on the worst plans known.
+ghost use Rattle.std.specs.Prelude.{◌<◌};
+
 use crate::networks::{cube, octahedron};
 use crate::timing;
-use network::Plan;
+use network::{Bounds, Plan, PlanRefusal};
 use network::planning::plan;
 use std::io;
 use std::time::CpuClock;
@@ -35,10 +37,17 @@ fn row(rt: &(impl Print + CpuClock), name: &str, p: Plan, rounds: u64) -> io::Re
     timing::timed(rt, rounds, |round| found(p, round))
 }
 
-// The bound found, or the refusal's number, with another delay in each round: no round's work is that of the round before.
+// With another delay in each round: no round's work is that of the round before.
 fn found(p: Plan, round: u64) -> u64 {
     let delay = (1 + round % 64) as u8;
-    match plan(Plan { delay, ..p }) {
+    bound(plan(Plan { delay, ..p }))
+}
+
+// The bound found, or the refusal's number.
+fn bound(answer: Result<Bounds, PlanRefusal>) -> u64
+    ensures { result < 65536 }
+{
+    match answer {
         Ok(found) => found.second.bound % 65536,
         Err(refusal) => u64::from(u8::from(refusal)),
     }

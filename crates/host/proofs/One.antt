@@ -79,6 +79,9 @@ pub make_one : (p : Plan) (rules own : ℕ) (r s : Result Host Refusal)
 make_one p rules own r s x y =
     sym (made_back r) ∙ ap₂ made_by (x.1 ∙ sym y.1) (x.0 ∙ sym y.0) ∙ made_back s
 
+pub made_one : (a : Result Host Refusal) (r s : Host) → r ≡ made a → s ≡ made a → r ≡ s
+made_one a r s = one_result
+
 -- ---- the answers by a frame
 
 pub start_answer_one : (f : Frame) (u : ℕ) (o : Order) (r s : Result Sent Refusal) → says r ≡ start_answer (bare f) u o → says s ≡ start_answer (bare f) u o → r ≡ s

@@ -20,7 +20,7 @@ pub use checks::number_of;
 use clock::Reading;
 pub use entries::entry;
 pub use lent::{receive, start, tick};
-pub use making::make;
+pub use making::{made, make};
 use network::Plan;
 use orders::Order;
 pub use receiving::{after_receive, receive_answer};

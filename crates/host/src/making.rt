@@ -10,7 +10,7 @@ use crate::unused::NO_HELD;
 use crate::{Host, Refusal};
 use clock::Reading;
 use network::planning::plan as planned;
-use network::{Bounds, Link, NO_LINK, Plan};
+use network::{Bounds, Link, NO_LINK, NO_PLAN, Plan};
 use orders::is_rules;
 
 // A fresh host of the plan.
@@ -22,6 +22,16 @@ pub fn make(plan: Plan, rules: u8, own: u8) -> Result<Host, Refusal>
     refuse_if(!is_rules(rules), Refusal::BadValue)?;
     refuse_if(own >= plan.hosts, Refusal::NotInPlan)?;
     Ok(no_starts(clear(plan), rules, bounds.d, bound_of(rules, bounds), own))
+}
+
+// The host of what `make` answers; of a refusal the state that is zero everywhere.
+pub fn made(answer: Result<Host, Refusal>) -> Host
+    ensures { result ≡ made answer }
+{
+    match answer {
+        Ok(host) => host,
+        Err(_) => no_starts(NO_PLAN, 0, 0, 0, 0),
+    }
 }
 
 fn no_starts(plan: Plan, rules: u8, d: u8, bound: u64, own: u8) -> Host

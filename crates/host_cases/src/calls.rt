@@ -2,8 +2,8 @@
 use crate::networks::network;
 use crate::show;
 use clock::Reading;
-use host::{Held, Host, NO_HELD};
-use network::{Link, NO_LINK, Plan};
+use host::{Held, Host};
+use network::Link;
 use orders::Order;
 use std::io;
 
@@ -58,7 +58,7 @@ pub(crate) fn run(rt: &impl Print, host: &mut Host, call: Call) -> io::Result<()
             own,
         } => {
             let made = host::make(network(number), rules, own);
-            *host = made.unwrap_or(zero());
+            *host = host::made(made);
             show::made(rt, made, host)
         }
         Call::Start { u, order } => {
@@ -118,26 +118,7 @@ fn fill(host: &mut Host, count: u64) {
     }
 }
 
-// The zero state, in which a refused making leaves the memory.
+// The zero state, as a refused making gives it.
 pub(crate) fn zero() -> Host {
-    Host {
-        plan: Plan {
-            hosts: 0,
-            faulty_hosts: 0,
-            link_count: 0,
-            faulty_links: 0,
-            delay: 0,
-            skew: 0,
-            links: [NO_LINK; 12],
-        },
-        rules: 0,
-        d: 0,
-        bound: 0,
-        own: 0,
-        last: Reading(0),
-        started: 0,
-        starts: [Reading(0); 4],
-        held: 0,
-        history: [NO_HELD; 32],
-    }
+    host::made(host::make(network(5), 0, 0))
 }

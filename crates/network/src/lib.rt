@@ -39,6 +39,17 @@ pub struct Plan {
     pub links: [Link; 12],
 }
 
+// The plan that is zero everywhere.
+pub const NO_PLAN: Plan = Plan {
+    hosts: 0,
+    faulty_hosts: 0,
+    link_count: 0,
+    faulty_links: 0,
+    delay: 0,
+    skew: 0,
+    links: [NO_LINK; 12],
+};
+
 // A fault set: a set of hosts and a set of links, each a number with bit i for host or link i.
 #[derive(Clone, Copy)]
 pub struct Faults {

@@ -68,5 +68,8 @@ number_of_one a m n = one_result
 pub index_of_one : {A : Type 0} (a : Result A Refusal) (m n : ℕ) → m ≡ (says a).1 → n ≡ (says a).1 → m ≡ n
 index_of_one a m n = one_result
 
+pub found_one : (a : Result Schedule Refusal) (r s : Schedule) → r ≡ found a → s ≡ found a → r ≡ s
+found_one a r s = one_result
+
 pub from_one : (p : PlanRefusal) (r s : Refusal) → r ≡ Plan p → s ≡ Plan p → r ≡ s
 from_one p r s = one_result

@@ -16,10 +16,11 @@ ghost use Rattle.schedule.specs.Calls.{says, found, answered, schedule_read};
 
 use crate::rules::Terms;
 use crate::shape::Tally;
+use crate::starts::NO_START;
 use crate::taking::Records;
 pub use answers::{index_of, number_of};
 use clock::Tick;
-use network::{Bounds, Faults, Plan, PlanRefusal};
+use network::{Bounds, Faults, NO_PLAN, Plan, PlanRefusal, Timing};
 use orders::Order;
 
 // An order started on a host at a tick.
@@ -91,3 +92,33 @@ pub fn read(bytes: &[u8]) -> Result<Schedule, Refusal>
     }
     Ok(schedule)
 }
+
+// The schedule of what `read` answers; of a refusal the one that is zero everywhere.
+pub fn found(answer: Result<Schedule, Refusal>) -> Schedule
+    ensures { result ≡ found answer }
+{
+    match answer {
+        Ok(schedule) => schedule,
+        Err(_) => NOTHING,
+    }
+}
+
+const NO_TIMING: Timing = Timing {
+    bound: 0,
+    window: 0,
+};
+
+const NOTHING: Schedule = Schedule {
+    plan: NO_PLAN,
+    bounds: Bounds {
+        d: 0,
+        first: NO_TIMING,
+        second: NO_TIMING,
+    },
+    faults: Faults { hosts: 0, links: 0 },
+    offsets: [0; 8],
+    end: Tick(0),
+    start_count: 0,
+    starts: [NO_START; 16],
+    delays: [0; 384],
+};

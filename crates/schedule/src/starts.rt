@@ -10,7 +10,7 @@ use crate::taking::Records;
 use clock::Tick;
 use orders::{BLANK, Order};
 
-const NO_START: Start = Start {
+pub(crate) const NO_START: Start = Start {
     tick: Tick(0),
     host: 0,
     order: BLANK,
