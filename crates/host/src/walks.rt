@@ -13,8 +13,8 @@ use crate::stored::Stored;
 use crate::{Frame, Held, Seen};
 use clock::{Reading, reached};
 
-// Whether a frame and a history are those of a sound state: one walk, which stops at the first order that fails. Stamps rise, so of the host's own
-// orders the last tells of all; the unused places are gathered into one number, so that they are read with no branch.
+// Whether a frame and a history are those of a sound state: one walk, which stops at the first order that is out of range or out of order. Stamps rise,
+// so of the host's own orders the last tells of all; the unused places are gathered into one number, so that they are read with no branch.
 pub fn is_sound_in<E: Stored>(frame: Frame, history: &[E]) -> bool
     ensures { result ≡ sound (stored frame (map E.as_held history.now)) }
 {
