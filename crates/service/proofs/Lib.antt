@@ -11,3 +11,4 @@ mod Sounds
 mod Sizes
 pub mod Through
 pub mod One
+mod Converts

@@ -62,7 +62,11 @@ impl From<Host> for HostMemory {
 
     fn from(host: Host) -> HostMemory {
         let starts = host.starts;
-        let history = host.history.map(|x| HeldMemory::from(x));
+        // Not by `map`, which is slower here: the places then stand in memory twice.
+        let mut history = [NO_HELD; 32];
+        for (i, x) in host.history.iter().enumerate() {
+            history[i] = HeldMemory::from(*x);
+        }
         HostMemory {
             bound: host.bound,
             last: host.last,

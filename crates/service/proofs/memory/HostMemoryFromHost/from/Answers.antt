@@ -1,21 +1,29 @@
 -- Each place of the history holds what the order there becomes. Assumes nothing.
 use borrow.Author.Rules.{rules}
-use borrow.Author.Tests.{tests}
 use native.Mathlib.Omega.{arith}
-use mathlib.Core.Path.{◌≡◌, sym, ◌∙◌}
+use mathlib.Core.Path.{◌≡◌, ap, ◌∙◌}
 use mathlib.Core.List.{List, map}
-use lib.ListN.{length, length-map, get_or, get_or-map}
-use lib.Seq.{ext_get_or}
+use lib.ListN.{length, get_or, set, take}
+use Rattle.lists.specs.Lists.{pad}
 use Rattle.host.specs.State.{no_held}
 use Rattle.host.specs.declared.Held.{Held}
+use Rattle.service.specs.declared.HeldMemory.{HeldMemory}
 use Rattle.service.specs.Memory.{held_memory}
+use Rattle.service.specs.Inside.{none}
+use Rattle.service.proofs.Converts.{fill_next, fill_all}
 use Rattle.service.proofs.memory.HostMemoryFromHost.from.Goals as goal
+
+pub loop-i-preserved : goal.loop-i-preserved
+loop-i-preserved c =
+    let s = c.loop-i in
+    let l : List Held = c.args.host.history in
+    let long : length l ≡ 32 = search rules in
+    ap (λ (t : List HeldMemory). set t s.i c.from.result) s.invariant
+    ∙ ap (λ (x : HeldMemory). set (pad 32 none (map held_memory (take s.i l))) s.i x) c.from.ensures
+    ∙ fill_next held_memory 32 none l no_held s.i (omega arith) (omega arith)
 
 pub returns : goal.returns
 returns c =
     let l : List Held = c.args.host.history in
-    let m = c.map-history.ensures.items in
     let long : length l ≡ 32 = search rules in
-    let same : c.map-history.result ≡ map held_memory l = ext_get_or (held_memory no_held) c.map-history.result (map held_memory l) (m.long ∙ sym (length-map l held_memory ∙ long))
-    (λ i h. let w = m.at i no_held (held_memory no_held) (omega (arith, m.long)) in let v : get_or c.map-history.result i (held_memory no_held) ≡ held_memory (get_or l i no_held) = search (rules, tests) in v ∙ sym (get_or-map held_memory l i no_held)) in
-    rw (c.from.ensures, same)
+    rw (c.loop-i.invariant, fill_all held_memory 32 none l c.loop-i.i (omega arith) long) (search rules)
