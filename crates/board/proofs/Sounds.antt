@@ -2,69 +2,49 @@
 use mathlib.Core.Path.{◌≡◌, refl, sym, ap, ◌∙◌}
 use mathlib.Core.Bool.{Bool, true, false, ◌&&◌}
 use mathlib.Core.List.{List, [], ◌∷◌, map}
-use Prim.Native.Nat.{ℕ, zero, suc, ◌+◌, ◌≤◌, ◌<◌}
-use native.Mathlib.Omega.{arith}
+use Prim.Native.Nat.{ℕ, ◌≤◌, ◌<◌}
 use borrow.Author.Tests.{le-leb, lt-leb}
-use lib.ListN.{length, take, drop, get_or}
-use Rattle.std.specs.List.{list_all, IsAllAdjacentAnswer, take-map, drop-map}
+use lib.ListN.{take, drop}
+use Rattle.std.specs.List.{list_all, take-map, drop-map}
 use Rattle.lists.specs.Lists.{all, rising}
 use Rattle.lists.specs.Tests.{all_of}
+use Rattle.lists.proofs.Maps.{all_of_lem, rising_of}
 use Rattle.lists.proofs.TestLaws.{all_chain, all_miss}
 use Rattle.board.specs.declared.Place.{Place}
 use Rattle.board.specs.Board.{place_fits, is_blank, before, sound, board_in}
-
-one_more : (k : ℕ) → suc k + 1 ≡ suc (k + 1)
-one_more k = omega arith
 
 module _ {P : Type 0} (place : P → Place) where
   pub all_map : (p : Place → Bool) (l : List P) → list_all (λ x. p (place x)) l ≡ all p (map place l)
   all_map p [] = refl
   all_map p (x ∷ l) = ap (λ (b : Bool). p (place x) && b) (all_map p l)
 
-  rise_all : (l : List P) → ((k : ℕ) (d : P) → k + 1 < length l → true ≡ before (place (get_or l k d)) (place (get_or l (k + 1) d))) → rising before (map place l) ≡ true
-  rise_all [] h = refl
-  rise_all (x ∷ []) h = refl
-  rise_all (x ∷ y ∷ l) h = rw (← h 0 x (omega arith)) (rise_all (y ∷ l) (λ k d b. shift k d (h (suc k) d (omega arith))))
-    where
-      shift : (k : ℕ) (d : P) → true ≡ before (place (get_or (x ∷ y ∷ l) (suc k) d)) (place (get_or (x ∷ y ∷ l) (suc k + 1) d))
-          → true ≡ before (place (get_or (y ∷ l) k d)) (place (get_or (y ∷ l) (k + 1) d))
-      shift k d e = e ∙ ap (λ (j : ℕ). before (place (get_or (y ∷ l) k d)) (place (get_or (x ∷ y ∷ l) j d))) (one_more k)
-
-  rise_miss : (l : List P) (k : ℕ) → k + 1 < length l → ((d : P) → false ≡ before (place (get_or l k d)) (place (get_or l (k + 1) d))) → rising before (map place l) ≡ false
-  rise_miss [] k h miss = let f : ⊥ = omega arith in absurd f
-  rise_miss (x ∷ []) k h miss = let f : ⊥ = omega arith in absurd f
-  rise_miss (x ∷ y ∷ l) zero h miss = rw (← miss x) refl
-  rise_miss (x ∷ y ∷ l) (suc k) h miss = go (before (place x) (place y)) (rise_miss (y ∷ l) k (omega arith) (λ d. miss d ∙ ap (λ (j : ℕ). before (place (get_or (y ∷ l) k d)) (place (get_or (x ∷ y ∷ l) j d))) (one_more k)))
-    where
-      go : (b : Bool) → rising before (map place (y ∷ l)) ≡ false → (b && rising before (map place (y ∷ l))) ≡ false
-      go true e = e
-      go false e = refl
-
-  pub rise_map : (r : Bool) (l : List P) → IsAllAdjacentAnswer (λ x y b. b ≡ before (place x) (place y)) l r → r ≡ rising before (map place l)
-  rise_map true l h = sym (rise_all l h)
-  rise_map false l h = sym (rise_miss l h.0 h.1 h.2)
-
   module _ (l : List P) (n : ℕ) where
     pub too_many : 16 < n → false ≡ sound (board_in place l n)
     unfolding sound all_of
     too_many h = rw (lt-leb _ _ h) refl
 
-    -- the tests of the places in use, and of those that are not
-    pub parts : {used unused : List P} {fit rest : Bool} (up : Bool) → n ≤ 16 → used ≡ take n l → unused ≡ drop n l → fit ≡ list_all (λ x. place_fits (place x)) used
-        → IsAllAdjacentAnswer (λ x y b. b ≡ before (place x) (place y)) used up → rest ≡ list_all (λ x. is_blank (place x)) unused
-        → ((fit && up) && rest) ≡ sound (board_in place l n)
-    unfolding sound all_of
-    parts {used} {unused} {fit} {rest} up h u v f a r =
-        let fits : fit ≡ all place_fits (map place (take n l)) = f ∙ all_map place_fits used ∙ ap (λ (t : List P). all place_fits (map place t)) u in
-        let rises : up ≡ rising before (map place (take n l)) = rise_map up used a ∙ ap (λ (t : List P). rising before (map place t)) u in
-        let blank : rest ≡ all is_blank (map place (drop n l)) = r ∙ all_map is_blank unused ∙ ap (λ (t : List P). all is_blank (map place t)) v in
-        rw (fits, rises, blank, le-leb _ _ h, take-map place n l, drop-map place n l)
-        (all_chain (all place_fits (map place (take n l))) (rising before (map place (take n l)) ∷ all is_blank (map place (drop n l)) ∷ []))
+    module _ {used : List P} (u : used ≡ take n l) where
+      fits_in : all (λ x. place_fits (place x)) used ≡ all place_fits (take n (map place l))
+      fits_in = ap (all (λ x. place_fits (place x))) u ∙ sym (all_of_lem place place_fits (take n l)) ∙ ap (all place_fits) (sym (take-map place n l))
 
-    -- a place in use that does not fit
-    pub unfit : {used : List P} {fit : Bool} → used ≡ take n l → fit ≡ list_all (λ x. place_fits (place x)) used → fit ≡ false → false ≡ sound (board_in place l n)
-    unfolding sound
-    unfit {used} {fit} u f e =
-        let fits : fit ≡ all place_fits (take n (map place l)) =
-        f ∙ all_map place_fits used ∙ ap (λ (t : List P). all place_fits (map place t)) u ∙ ap (all place_fits) (sym (take-map place n l)) in
-        sym (all_miss _ 1 (sym fits ∙ e))
+      rise_in : rising (λ x y. before (place x) (place y)) used ≡ rising before (take n (map place l))
+      rise_in = ap (rising (λ x y. before (place x) (place y))) u ∙ sym (rising_of place before (take n l)) ∙ ap (rising before) (sym (take-map place n l))
+
+      -- a place in use that does not fit, or does not rise
+      pub unfit : all (λ x. place_fits (place x)) used ≡ false → false ≡ sound (board_in place l n)
+      unfolding sound
+      unfit e = sym (all_miss _ 1 (sym fits_in ∙ e))
+
+      pub unordered : rising (λ x y. before (place x) (place y)) used ≡ false → false ≡ sound (board_in place l n)
+      unfolding sound
+      unordered e = sym (all_miss _ 2 (sym rise_in ∙ e))
+
+    -- the places in use fit and rise, so the others decide
+    pub whole : {used unused : List P} {rest : Bool} → n ≤ 16 → used ≡ take n l → unused ≡ drop n l → all (λ x. place_fits (place x)) used ≡ true
+        → rising (λ x y. before (place x) (place y)) used ≡ true → rest ≡ list_all (λ x. is_blank (place x)) unused → rest ≡ sound (board_in place l n)
+    unfolding sound all_of
+    whole {used} {unused} {rest} h u v f a r =
+        let fits : all place_fits (take n (map place l)) ≡ true = sym (fits_in u) ∙ f in
+        let rises : rising before (take n (map place l)) ≡ true = sym (rise_in u) ∙ a in
+        let blank : rest ≡ all is_blank (drop n (map place l)) = r ∙ all_map is_blank unused ∙ ap (λ (t : List P). all is_blank (map place t)) v ∙ ap (all is_blank) (sym (drop-map place n l)) in
+        rw (blank, le-leb _ _ h, fits, rises) (all_chain (all is_blank (drop n (map place l))) [])

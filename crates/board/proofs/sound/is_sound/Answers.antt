@@ -1,40 +1,36 @@
--- The places in use are fit and rise, and the others are blank; none is looked at where the count is out of range. Assumes nothing.
-use Rattle.std.proofs.Common.{rules, Bool, sym, ap₂, refl, ◌∙◌, ◌&&◌}
+-- Each turn tests the first of what is left, and what is left still decides; then the others are blank. Assumes nothing.
+use Rattle.std.proofs.Common.{rules}
 use borrow.Author.Tests.{tests}
-use Rattle.std.specs.List.{list_all}
-use mathlib.Core.Bool.{true≢false}
 use Rattle.std.proofs.lemmas.Iterator.{YieldsList-from_slice}
 use Rattle.std.proofs.lemmas.Iterator.Search.{all_from_yields_List}
-use Rattle.std.proofs.lemmas.List.Sorted.{answers_always}
-use Rattle.board.specs.Board.{place_fits, is_blank, before}
-use Rattle.board.proofs.Sounds.{too_many, parts, unfit}
+use Rattle.lists.proofs.Loops.{item_next}
+use Rattle.lists.proofs.Steps.{step_unfit, step_unordered, step_turn, step_fit, step_rise}
+use Rattle.board.specs.Board.{is_blank}
+use Rattle.board.proofs.Sounds.{too_many, unfit, unordered, whole}
 use Rattle.board.proofs.sound.is_sound.Goals as goal
-use Rattle.board.proofs.sound.is_sound.Goals.{then-all, else-all}
 
 pub returns-then-count-gt16 : goal.returns-then-count-gt16
 returns-then-count-gt16 g c = too_many g.P.Placed.place c.args.places.now c.args.count c.if-count-gt16.true
 
-pub returns-then-is_sorted_by : goal.returns-then-is_sorted_by
-returns-then-is_sorted_by g c =
-    let place = g.P.Placed.place in
-    let fit = all_from_yields_List (λ p. place_fits (place p)) _ _ _ c.all.ensures.ran (YieldsList-from_slice c.split_at.result.0.now cc) (λ x b q k. search (rules, tests)) in
-    let rest = all_from_yields_List (λ p. is_blank (place p)) _ _ _ c.all-then-is_sorted_by.ensures.ran (YieldsList-from_slice c.split_at.result.1.now cc) (λ x b q k. search (rules, tests)) in
-    elim c.if-all.branch [
-      | then-all w ↦
-          let up = w.is_sorted_by.ensures.cases (λ p q. before (place p) (place q)) (answers_always _ _ _ (λ f a r h called. search (rules, tests))) in
-          let whole = parts place c.args.places.now c.args.count _ c.if-count-gt16.false c.split_at.ensures.front c.split_at.ensures.back fit up rest in
-          sym (ap₂ (λ (a b : Bool). (a && b) && c.all-then-is_sorted_by.result) w.if-all.true (sym w.value-is ∙ c.if-is_sorted_by.true)) ∙ whole
-      | else-all w ↦ absurd (true≢false (sym c.if-is_sorted_by.true ∙ w.value-is ∙ w.if-all.false))
-    ]
+pub returns-then-not-is_fit : goal.returns-then-not-is_fit
+returns-then-not-is_fit g c =
+    let next = item_next _ c.loop-p-test.true c.p-item.is in
+    unfit g.P.Placed.place c.args.places.now c.args.count c.split_at.ensures.front (step_unfit c.loop-p.invariant _ next c.is_fit.ensures c.if-not-is_fit.true)
 
-pub returns-else-is_sorted_by : goal.returns-else-is_sorted_by
-returns-else-is_sorted_by g c =
+pub returns-then-not-may_follow : goal.returns-then-not-may_follow
+returns-then-not-may_follow g c =
+    let next = item_next _ c.loop-p-test.true c.p-item.is in
+    unordered g.P.Placed.place c.args.places.now c.args.count c.split_at.ensures.front (step_unordered c.loop-p.invariant _ next c.may_follow.ensures c.if-not-may_follow.true)
+
+pub loop-p-preserved : goal.loop-p-preserved
+loop-p-preserved g c =
+    let next = item_next _ c.loop-p-test.true c.p-item.is in
+    step_turn c.loop-p.invariant _ next c.is_fit.ensures c.if-not-is_fit.false c.may_follow.ensures c.if-not-may_follow.false
+
+pub returns : goal.returns
+returns g c =
     let place = g.P.Placed.place in
-    let fit = all_from_yields_List (λ p. place_fits (place p)) _ _ _ c.all.ensures.ran (YieldsList-from_slice c.split_at.result.0.now cc) (λ x b q k. search (rules, tests)) in
-    c.if-is_sorted_by.false ∙ elim c.if-all.branch [
-      | then-all w ↦
-          let up = w.is_sorted_by.ensures.cases (λ p q. before (place p) (place q)) (answers_always _ _ _ (λ f a r h called. search (rules, tests))) in
-          let whole = parts place c.args.places.now c.args.count _ c.if-count-gt16.false c.split_at.ensures.front c.split_at.ensures.back fit up refl in
-          sym (ap₂ (λ (a b : Bool). (a && b) && list_all (λ p. is_blank (place p)) c.split_at.result.1.now) w.if-all.true (sym w.value-is ∙ c.if-is_sorted_by.false)) ∙ whole
-      | else-all w ↦ unfit place c.args.places.now c.args.count c.split_at.ensures.front fit w.if-all.false
-    ]
+    let rest = all_from_yields_List (λ p. is_blank (place p)) _ _ _ c.all.ensures.ran (YieldsList-from_slice c.split_at.result.1.now cc) (λ x b q k. search (rules, tests)) in
+    let inv = c.loop-p.invariant in
+    let end = c.loop-p-test.false in
+    whole place c.args.places.now c.args.count c.if-count-gt16.false c.split_at.ensures.front c.split_at.ensures.back (step_fit inv end) (step_rise inv end) rest
