@@ -1,4 +1,4 @@
--- Notions that only private contracts cite. Assumes nothing.
+-- Notions that private contracts, and the proofs of those, cite. Assumes nothing.
 use Rattle.std.specs.Prelude.{◌≡◌, true, cond, List, ◌++◌, ℕ, ◌≤◌, ◌<◌, eqb, ◌+◌, length, take, drop, get_or}
 use Rattle.lists.specs.Lists.{all, rising}
 use Rattle.board.specs.declared.Stand.{Stand}

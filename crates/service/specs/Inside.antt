@@ -1,4 +1,4 @@
--- Notions that only private contracts cite. Assumes nothing.
+-- Notions that private contracts, and the proofs of those, cite. Assumes nothing.
 use Rattle.std.specs.Prelude.{Bool, not, List, ℕ}
 use Rattle.host.specs.State.{before, is_no_held}
 use Rattle.host.specs.Tick.{due}
