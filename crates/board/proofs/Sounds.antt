@@ -50,11 +50,11 @@ module _ {P : Type 0} (place : P → Place) where
     too_many h = rw (lt-leb _ _ h) refl
 
     -- the tests of the places in use, and of those that are not
-    pub parts : {used unused : List P} {fit rest : Bool} (up : Bool) → n ≤ 16 → used ≡ take n l → unused ≡ drop n l → fit ≡ list_all (λ x. place_fits (place x)) used
-        → IsAllAdjacentAnswer (λ x y b. b ≡ before (place x) (place y)) used up → rest ≡ list_all (λ x. is_blank (place x)) unused
+    pub parts : {used unused : List P} {fit rest : Bool} (up : Bool) → n ≤ 16 → used ≡ take n l → fit ≡ list_all (λ x. place_fits (place x)) used
+        → IsAllAdjacentAnswer (λ x y b. b ≡ before (place x) (place y)) used up → rest ≡ list_all (λ x. is_blank (place x)) unused → unused ≡ drop n l
         → ((fit && up) && rest) ≡ sound (board_in place l n)
     unfolding sound all_of
-    parts {used} {unused} {fit} {rest} up h u v f a r =
+    parts {used} {unused} {fit} {rest} up h u f a r v =
         let fits : fit ≡ all place_fits (map place (take n l)) = f ∙ all_map place_fits used ∙ ap (λ (t : List P). all place_fits (map place t)) u in
         let rises : up ≡ rising before (map place (take n l)) = rise_map up used a ∙ ap (λ (t : List P). rising before (map place t)) u in
         let blank : rest ≡ all is_blank (map place (drop n l)) = r ∙ all_map is_blank unused ∙ ap (λ (t : List P). all is_blank (map place t)) v in
