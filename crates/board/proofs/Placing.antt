@@ -1,5 +1,5 @@
 -- Where an image stands in a board, and what settling it there makes of the list. Assumes nothing.
-use mathlib.Core.Path.{◌≡◌, refl, sym, ap, ◌∙◌}
+use mathlib.Core.Path.{◌≡◌, refl, sym, ap, ◌∙◌, subst}
 use mathlib.Core.Bool.{true}
 use mathlib.Core.List.{List, [], ◌∷◌, ◌++◌, append-nil, map}
 use Prim.Native.Nat.{ℕ, zero, suc, ◌+◌, ◌≤◌, ◌<◌}
@@ -126,9 +126,14 @@ module _ {P : Type 0} (place : P → Place) where
           let at_most : (place (get_or l i d)).image ≤ (place (get_or l j d)).image = grind (arith, apart, same) in
           grind (arith, nat_tests)
 
-      pub searched : (r : Result ℕ ℕ) → IsSearchInRange r (length l) → IsBinarySearchResult (λ p. nat_cmp (place p).image image) l r
+      searched : (r : Result ℕ ℕ) → IsSearchInRange r (length l) → IsBinarySearchResult (λ p. nat_cmp (place p).image image) l r
           → MatchResult r (StandsAt (map place l) image) (WouldStandAt (map place l) image)
       searched (Ok at) within has = stands_at l at up within (λ d. ranked _ image _ (sym (has d)))
       searched (Err at) within parted =
           let cut = parted comparisons_rise in
           would_stand_at l at up within (λ k d h. ranked _ image _ (sym (cut.0 k d (omega arith) h))) (λ k d a h. ranked _ image _ (sym (cut.1 k d a h)))
+
+      -- the same of a search for what is the image
+      pub searched_for : {key : ℕ} (r : Result ℕ ℕ) → IsSearchInRange r (length l) → IsBinarySearchResult (λ p. nat_cmp (place p).image key) l r → key ≡ image
+          → MatchResult r (StandsAt (map place l) image) (WouldStandAt (map place l) image)
+      searched_for r within found is = searched r within (subst (λ (k : ℕ). IsBinarySearchResult (λ p. nat_cmp (place p).image k) l r) is found)

@@ -40,10 +40,10 @@ module _ {P : Type 0} (place : P → Place) where
       unordered e = sym (all_miss _ 2 (sym rise_in ∙ e))
 
     -- the places in use fit and rise, so the others decide
-    pub whole : {used unused : List P} {rest : Bool} → n ≤ 16 → used ≡ take n l → unused ≡ drop n l → all (λ x. place_fits (place x)) used ≡ true
-        → rising (λ x y. before (place x) (place y)) used ≡ true → rest ≡ list_all (λ x. is_blank (place x)) unused → rest ≡ sound (board_in place l n)
+    pub whole : {used unused : List P} {rest : Bool} → n ≤ 16 → used ≡ take n l → all (λ x. place_fits (place x)) used ≡ true
+        → rising (λ x y. before (place x) (place y)) used ≡ true → rest ≡ list_all (λ x. is_blank (place x)) unused → unused ≡ drop n l → rest ≡ sound (board_in place l n)
     unfolding sound all_of
-    whole {used} {unused} {rest} h u v f a r =
+    whole {used} {unused} {rest} h u f a r v =
         let fits : all place_fits (take n (map place l)) ≡ true = sym (fits_in u) ∙ f in
         let rises : rising before (take n (map place l)) ≡ true = sym (rise_in u) ∙ a in
         let blank : rest ≡ all is_blank (drop n (map place l)) = r ∙ all_map is_blank unused ∙ ap (λ (t : List P). all is_blank (map place t)) v ∙ ap (all is_blank) (sym (drop-map place n l)) in

@@ -1,7 +1,7 @@
 -- The image is settled as the table says of how it stood. Assumes nothing.
 use mathlib.Core.Bool.{true≢false}
 use native.Mathlib.Omega.{arith}
-use Rattle.std.proofs.Common.{sym, ap, ◌∙◌}
+use Rattle.std.proofs.Common.{rules, ◌<◌, sym, ap, ◌∙◌}
 use Rattle.board.proofs.Makings.{is_sound, searched_rise, may_stand, closes, sets, may_come, opens, stays_absent, stays_out}
 use Rattle.board.proofs.lent.change.Goals as goal
 use Rattle.board.proofs.lent.change.Goals.{else-not-absent-via-then-not-absent+else-count-lt16, else-not-absent-via-else-not-absent}
@@ -26,18 +26,21 @@ returns-else-absent g c =
 
 pub returns-then-count-lt16 : goal.returns-then-count-lt16
 returns-then-count-lt16 g c =
+    let few = (is_sound g.P.Placed.place c.args.places.now c.args.count.now c.args.order c.told-places c.requires.sound).few in
+    let room : c.args.count.now < 16 = omega (arith, few, c.if-count-lt16.true) in
     let may = may_come g.P.Placed.place c.args.places.now c.args.count.now c.args.order c.told-places c.requires.sound c.split_at.ensures.front c.image-image.ensures
     c.outcome_of-stand-in-Err.ensures c.in-Err.ensures c.requires.fits in
     opens g.P.Placed.place c.args.places.now c.args.count.now c.args.order c.told-places c.requires.sound c.split_at.ensures.front c.image-image.ensures
-    c.outcome_of-stand-in-Err.ensures c.in-Err.ensures c.of-then-count-lt16.result c.open_at.new.entries (sym c.absent-in-Err.ensures ∙ c.if-not-absent.true) c.if-count-lt16.true (ap g.P.Placed.place c.of-then-count-lt16.ensures ∙ g.met.P.Placed.comes_back _ may) c.open_at.ensures
+    c.outcome_of-stand-in-Err.ensures c.in-Err.ensures c.of-then-count-lt16.result c.open_at.new.entries (search rules) room (ap g.P.Placed.place c.of-then-count-lt16.ensures ∙ g.met.P.Placed.comes_back _ may) c.open_at.ensures
 
 pub returns-else-not-absent : goal.returns-else-not-absent
 returns-else-not-absent g c =
+    let few = (is_sound g.P.Placed.place c.args.places.now c.args.count.now c.args.order c.told-places c.requires.sound).few in
     elim c.else-not-absent.branch [
       | else-not-absent-via-then-not-absent+else-count-lt16 w ↦
           stays_out g.P.Placed.place c.args.places.now c.args.count.now c.args.order c.told-places c.requires.sound c.split_at.ensures.front c.image-image.ensures
-          c.outcome_of-stand-in-Err.ensures c.in-Err.ensures (sym c.absent-in-Err.ensures ∙ w.if-not-absent.true) w.if-count-lt16.false
+          c.outcome_of-stand-in-Err.ensures c.in-Err.ensures (search rules) (omega (arith, few, w.if-count-lt16.false))
       | else-not-absent-via-else-not-absent w ↦
           stays_absent g.P.Placed.place c.args.places.now c.args.count.now c.args.order c.told-places c.requires.sound c.split_at.ensures.front c.image-image.ensures
-          c.outcome_of-stand-in-Err.ensures c.in-Err.ensures (sym c.absent-in-Err.ensures ∙ w.if-not-absent.false)
+          c.outcome_of-stand-in-Err.ensures c.in-Err.ensures (search rules)
     ]

@@ -1,8 +1,10 @@
 -- Each turn tests the first of what is left, and what is left still decides; then the others are blank. Assumes nothing.
-use Rattle.std.proofs.Common.{rules}
+use Rattle.std.proofs.Common.{rules, arith}
 use borrow.Author.Tests.{tests}
+use Rattle.std.specs.Slice.Iter.{iter_rest}
 use Rattle.std.proofs.lemmas.Iterator.{YieldsList-from_slice}
 use Rattle.std.proofs.lemmas.Iterator.Search.{all_from_yields_List}
+use Rattle.std.proofs.lemmas.List.{take_all}
 use Rattle.lists.proofs.Loops.{item_next}
 use Rattle.lists.proofs.Steps.{step_unfit, step_unordered, step_turn, step_fit, step_rise}
 use Rattle.board.specs.Board.{is_blank}
@@ -30,7 +32,7 @@ loop-p-preserved g c =
 pub returns : goal.returns
 returns g c =
     let place = g.P.Placed.place in
-    let rest = all_from_yields_List (λ p. is_blank (place p)) _ _ _ c.all.ensures.ran (YieldsList-from_slice c.split_at.result.1.now cc) (λ x b q k. search (rules, tests)) in
+    let rest = all_from_yields_List (λ p. is_blank (place p)) _ _ _ c.all.ensures.ran (YieldsList-from_slice (iter_rest c.iter.result) cc) (λ x b q k. search (rules, tests)) in
     let inv = c.loop-p.invariant in
     let end = c.loop-p-test.false in
-    whole place c.args.places.now c.args.count c.if-count-gt16.false c.split_at.ensures.front c.split_at.ensures.back (step_fit inv end) (step_rise inv end) rest
+    whole place c.args.places.now c.args.count c.if-count-gt16.false c.split_at.ensures.front (step_fit inv end) (step_rise inv end) rest (search (rules, arith, take_all))
