@@ -139,6 +139,16 @@ module _ (p : Station) (u : Reading) (room : Room p u) where
   abbrev refusal : ℕ
   refusal = tick_refusal p.host u.0 512
 
+  -- nothing is delivered where the tick is refused
+  pub station_refused : (w : Refusal) (h : Host) → says_tick (Err w) ≡ tick_says p.host u.0 512 → h ≡ tick_host p.host u 512
+      → record { host = h; log = p.log } ≡ ticked u p
+  station_refused w h e k =
+      let number_is : number w ≡ refusal = ap (λ (s : SaidTick). s.refusal) e ∙ said_refusal refusal (length (due_of p.host u.0)) in
+      let none : [] ≡ delivered p.host u = kept w refusal (due_of p.host u.0) [] number_is in
+      let log : p.log ≡ log_of (list_of p.log ++ map (delivery u) (delivered p.host u)) =
+      room.log ∙ ap log_of (sym (append-nil (list_of p.log)) ∙ ap (λ (l : List Held). list_of p.log ++ map (delivery u) l) none) in
+      cc (k, log)
+
   module _ (count : ℕ) (e : says_tick (Ok count) ≡ tick_says p.host u.0 512) where
     clear : refusal ≡ 0
     clear = sym (said_refusal refusal (length (due_of p.host u.0))) ∙ ap (λ (s : SaidTick). s.refusal) (sym e)
