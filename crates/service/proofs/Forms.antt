@@ -11,6 +11,10 @@ use Rattle.orders.specs.Orders.{is_kind, is_share, share_fits, order_of}
 use Rattle.service.specs.Memory.{formed, zeros, order_from}
 use Rattle.service.specs.Bits.{by_form}
 
+pub share_byte : (kind share : ℕ) → formed kind share ≡ true → share < 256
+share_byte kind share f =
+    by_form kind share f (λ k s. s < 256) (λ s e. let h : s ≤ 100 = leb-true _ _ (and_right (leb 1 s) (leb s 100) e) in omega arith) (omega arith) (omega arith) (omega arith)
+
 module _ (kind image share : ℕ) where
   -- its share is in range just where they are an order's
   pub from_fits : share_fits (order_from kind image share) ≡ formed kind share
