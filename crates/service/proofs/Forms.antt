@@ -1,6 +1,6 @@
 -- Numbers that are an order's, and what the order of any three numbers tells of them. Assumes nothing.
-use mathlib.Core.Path.{◌≡◌, refl, sym, ap₂, subst, ◌∙◌}
-use mathlib.Core.Bool.{Bool, true, false, cond, ◌&&◌, and-false, true≢false}
+use mathlib.Core.Path.{◌≡◌, refl, sym, ap₂, ◌∙◌}
+use mathlib.Core.Bool.{Bool, true, false, cond, ◌&&◌, true≢false}
 use Prim.Native.Nat.{ℕ, ◌+◌, ◌*◌, ◌≤◌, ◌<◌}
 use native.Mathlib.Omega.{arith}
 use borrow.Author.Tests.{leb-true, le-leb, eqb-true, eq-eqb, ne_eqb}

@@ -5,7 +5,6 @@ use Prim.Native.Nat.{ℕ, zero, suc, ◌+◌, ◌≤◌, ◌<◌}
 use native.Mathlib.Omega.{arith}
 use borrow.Author.Tests.{eqb-true, ne_eqb, le-leb, lt-leb}
 use lib.Dec.{leb, eqb}
-use Rattle.board.specs.declared.Place.{Place}
 use Rattle.board.specs.declared.Stand.{Stand}
 use Rattle.board.specs.Board.{stand_fits, is_absent}
 use Rattle.service.specs.declared.PlaceMemory.{PlaceMemory}
