@@ -24,6 +24,11 @@ cells (Withdraw image) Absent = refl
 cells (Withdraw image) (Offered old) = refl
 cells (Withdraw image) (Halted old) = refl
 
+pub states : (s : Stand) → state_of s ≤ 2
+states Absent = omega arith
+states (Offered share) = omega arith
+states (Halted share) = omega arith
+
 pub kinds : (o : Order) → (1 ≤ kind_of o) × (kind_of o ≤ 4)
 kinds (Publish image share) = omega arith
 kinds (Halt image) = omega arith

@@ -2,7 +2,7 @@
 use mathlib.Core.Path.{◌≡◌, refl, sym, ap, ◌∙◌}
 use mathlib.Core.Bool.{Bool, true, false, cond, not, false≢true}
 use mathlib.Core.Logic.{inl, inr}
-use mathlib.Core.List.{List, [], ◌∷◌, ◌++◌, map, append_assoc}
+use mathlib.Core.List.{List, [], ◌∷◌, ◌++◌, map, append_assoc, append-nil}
 use Prim.Native.Nat.{ℕ, zero, suc, ◌+◌, ◌≤◌, ◌<◌}
 use native.Mathlib.Numerals.{add-one}
 use native.Mathlib.Omega.{arith}
@@ -20,15 +20,17 @@ use Rattle.lists.proofs.Loops.{keep_both}
 use Rattle.clock.specs.declared.Reading.{Reading}
 use Rattle.clock.specs.declared.Tick.{Tick}
 use Rattle.host.specs.State.{no_held, held_of, before}
-use Rattle.host.specs.Answers.{SaidTick, says_tick, said_by_tick}
+use Rattle.host.specs.Answers.{SaidTick, number, says_tick, said_by_tick}
 use Rattle.host.specs.Tick.{due, due_of, tick_refusal, tick_says, tick_host}
 use Rattle.host.specs.declared.Held.{Held}
 use Rattle.host.specs.declared.Host.{Host}
-use Rattle.std.specs.Prelude.{Ok}
+use Rattle.host.specs.declared.Refusal.{Refusal}
+use Rattle.std.specs.Prelude.{Ok, Err}
 use Rattle.host.proofs.Facts.{SoundIs, tick_is}
 use Rattle.host.proofs.Keeps.{held_most}
 use Rattle.host.proofs.Outcomes.{accepted}
 use Rattle.host.proofs.Names.{Goes, before_is, before_trans}
+use Rattle.host.proofs.Numbers.{kept}
 use Rattle.schedule.specs.declared.Schedule.{Schedule}
 use Rattle.engine.specs.declared.Delivery.{Delivery}
 use Rattle.engine.specs.declared.Log.{Log}
@@ -53,6 +55,9 @@ module _ (u : Reading) (log : Log) (set_out : log ≡ log_of (list_of log)) (h :
       ∙ ap (λ (n : ℕ). length (list_of log) + n) (length-map (take i h) (delivery u) ∙ length-take-le i h k)
       ∙ ap (λ (n : ℕ). n + i) (sym counted)
 
+  pub more_start : log.entries ≡ pad 16 no_delivery (with_first 0)
+  more_start = ap (λ (l : Log). l.entries) set_out ∙ ap (pad 16 no_delivery) (sym (append-nil (list_of log)))
+
   pub more_turn : (i : ℕ) (e : List Delivery) → i < length h → log.count + i < 16 → e ≡ pad 16 no_delivery (with_first i)
       → set e (log.count + i) (delivery u (get_or h i no_held)) ≡ pad 16 no_delivery (with_first (i + 1))
   more_turn i e k room inv =
@@ -64,6 +69,14 @@ module _ (u : Reading) (log : Log) (set_out : log ≡ log_of (list_of log)) (h :
       ∙ pad_more 16 no_delivery x (with_first i) (omega arith)
       ∙ ap (pad 16 no_delivery) (append_assoc (list_of log) (map (delivery u) (take i h)) (x ∷ [])
       ∙ ap (λ (t : List Delivery). list_of log ++ t) (sym (map_append (delivery u) (take i h) (get_or h i no_held ∷ [])) ∙ ap (map (delivery u)) (sym next)))
+
+  pub more_end : (i n : ℕ) (e : List Delivery) → i ≤ n → n ≤ i → n ≤ length h → e ≡ pad 16 no_delivery (with_first i)
+      → record { count = log.count + n; entries = e } ≡ log_of (with_first n)
+  more_end i n e a b k inv =
+      let same : i ≡ n = omega arith in
+      let long : log.count + n ≡ length (with_first n) = sym (with_long n k) in
+      let there : e ≡ pad 16 no_delivery (with_first n) = inv ∙ ap (λ (j : ℕ). pad 16 no_delivery (with_first j)) same in
+      cc (long, there)
 
 -- ---- what is due stands first in a history that rises
 
@@ -125,6 +138,16 @@ said_count r c e = rw e
 module _ (p : Station) (u : Reading) (room : Room p u) where
   abbrev refusal : ℕ
   refusal = tick_refusal p.host u.0 512
+
+  -- nothing is delivered where the tick is refused
+  pub station_refused : (w : Refusal) (h : Host) → says_tick (Err w) ≡ tick_says p.host u.0 512 → h ≡ tick_host p.host u 512
+      → record { host = h; log = p.log } ≡ ticked u p
+  station_refused w h e k =
+      let number_is : number w ≡ refusal = ap (λ (s : SaidTick). s.refusal) e ∙ said_refusal refusal (length (due_of p.host u.0)) in
+      let none : [] ≡ delivered p.host u = kept w refusal (due_of p.host u.0) [] number_is in
+      let log : p.log ≡ log_of (list_of p.log ++ map (delivery u) (delivered p.host u)) =
+      room.log ∙ ap log_of (sym (append-nil (list_of p.log)) ∙ ap (λ (l : List Held). list_of p.log ++ map (delivery u) l) none) in
+      cc (k, log)
 
   module _ (count : ℕ) (e : says_tick (Ok count) ≡ tick_says p.host u.0 512) where
     clear : refusal ≡ 0

@@ -1,13 +1,13 @@
 -- One thing after another: one turn of a loop, what every turn keeps, and how far it grows. Assumes nothing.
 use mathlib.Core.Path.{◌≡◌, refl, sym, ap, ◌∙◌}
 use mathlib.Core.Bool.{Bool, true, false, cond}
-use mathlib.Core.List.{List}
-use Prim.Native.Nat.{ℕ, zero, suc, ◌+◌, ◌*◌, ◌≤◌, ◌<◌}
+use mathlib.Core.List.{List, ◌++◌, append-nil}
+use Prim.Native.Nat.{ℕ, zero, suc, ◌+◌, ◌-◌, ◌*◌, ◌≤◌, ◌<◌}
 use native.Mathlib.Numerals.{add-one}
 use native.Mathlib.Omega.{arith}
-use lib.ListN.{length, get_or}
+use lib.ListN.{length, get_or, replicate}
 use lib.Seq.{ext_get_or}
-use Rattle.lists.specs.Lists.{listed}
+use Rattle.lists.specs.Lists.{listed, pad}
 use Rattle.lists.proofs.Listing.{length_listed, get_or_listed}
 use Rattle.engine.specs.Turns.{in_turn}
 
@@ -51,3 +51,7 @@ module _ {A : Type 0} (test : ℕ → A → Bool) (g : ℕ → A → A) where
 -- the list that holds f of each place
 pub listed_of : {A : Type 0} (d : A) (f : ℕ → A) (n : ℕ) (l : List A) → length l ≡ n → ((i : ℕ) → i < n → get_or l i d ≡ f i) → l ≡ listed n f
 listed_of d f n l e h = ext_get_or d l (listed n f) (e ∙ sym (length_listed n f)) (λ i k. h i (omega arith) ∙ sym (get_or_listed n f i d (omega arith)))
+
+-- a list that fills its array has no place behind it
+pub full : {A : Type 0} (N : ℕ) (z : A) (l : List A) → length l ≡ N → pad N z l ≡ l
+full {A} N z l e = let none : N - length l ≡ 0 = omega arith in ap (λ (k : ℕ). l ++ replicate k z) none ∙ append-nil l

@@ -1,11 +1,12 @@
 -- What soundness and an accepted call say, each fact by its name. Assumes nothing.
 use mathlib.Core.Path.{◌≡◌, refl, ap}
-use mathlib.Core.Bool.{Bool, true, false, not, ◌&&◌}
+use mathlib.Core.Bool.{Bool, true, false, not, cond, ◌&&◌}
 use Prim.Native.Nat.{ℕ, ◌+◌, ◌*◌, ◌≤◌, ◌<◌}
+use native.Mathlib.Omega.{arith}
 use borrow.Author.Tests.{not-false, not-true, leb-true, leb-false, ltb-true, ltb-false, le-leb, lt-leb, lt-ltb, le-ltb, eqb-true, eq-eqb}
 use lib.Dec.{leb, ltb, eqb}
 use lib.ListN.{length, get_or, drop}
-use Rattle.lists.specs.Tests.{all_of}
+use Rattle.lists.specs.Tests.{all_of, first_of}
 use Rattle.lists.specs.Lists.{all, any, rising}
 use Rattle.lists.proofs.Bools.{and_left_lem, and_right}
 use Rattle.lists.proofs.TestLaws.{all_each, each_all, none_pass, pass_none}
@@ -19,7 +20,7 @@ use Rattle.host.specs.declared.Host.{Host}
 use Rattle.host.specs.State.{no_reading, is_no_link, is_no_reading, is_no_held, starts_of, held_of, last_start, same_name, before, earlier, fits, own_started, not_above, frame_tests, history_tests, framed, sound}
 use Rattle.host.specs.OwnLinks.{ends}
 use Rattle.host.specs.Start.{start_tests, start_refusal}
-use Rattle.host.specs.Receive.{early, late, same_held, other_held, receive_tests, receive_refusal}
+use Rattle.host.specs.Receive.{early, late, same_held, other_held, receive_checks, receive_tests, receive_refusal}
 use Rattle.host.specs.Tick.{due_of, tick_tests, tick_refusal}
 
 pub record SoundIs (h : Host) : Type 0 where
@@ -229,3 +230,18 @@ pub tick_runs : (h : Host) (u room : ℕ) → TickIs h u room → tick_refusal h
 unfolding tick_tests
 tick_runs h u room k =
     pass_none (tick_tests h u room) (ap not (is_sound h k.sound), (ap not (le-leb _ _ k.reading), (le-ltb _ _ k.later, (le-ltb _ _ k.fits, tt))))
+
+pub hop_most : (rules hop : ℕ) → hop_fits rules hop ≡ true → hop ≤ 8
+hop_most rules hop = go (eqb rules 2)
+  where
+    go : (t : Bool) → cond t (leb 1 hop && leb hop 8) (eqb hop 0) ≡ true → hop ≤ 8
+    go true e = leb-true hop 8 (and_right (leb 1 hop) (leb hop 8) e)
+    go false e = let z : hop ≡ 0 = eqb-true hop 0 e in omega arith
+
+-- a copy whose tests after soundness all fail has a hop in range
+pub checked_hop : (h : Host) (u arrival hop : ℕ) (x : Held) (same other named : Bool) → first_of (receive_checks h u arrival hop x same other named) ≡ 0 → hop ≤ 8
+checked_hop h u arrival hop x same other named e =
+    let t = none_pass (receive_checks h u arrival hop x same other named) refl e in
+    let stampFits : Bool = leb x.stamp.0 largest_stamp in
+    let hopIn : Bool = hop_fits h.rules hop in
+    hop_most h.rules hop (and_right stampFits hopIn (and_left_lem (stampFits && hopIn) (share_fits x.order) (not-false _ t.1.0)))

@@ -60,6 +60,9 @@ tick_refused r k count e = rw (← e, not_none r)
 pub says_sent : (k l h : ℕ) (s : Sent) → k ≡ 0 → s.links ≡ l → s.hop ≡ h → says (Ok s) ≡ said_by k l h
 says_sent k l h s e f g = rw (e, f, g)
 
+pub tick_delivered : (k count : ℕ) → k ≡ 0 → says_tick (Ok count) ≡ said_by_tick k count
+tick_delivered k count e = rw e
+
 -- what is said has the refusal
 pub said_refusal : (k links hop : ℕ) → (said_by k links hop).refusal ≡ k
 said_refusal k links hop = go (eqb k 0) refl

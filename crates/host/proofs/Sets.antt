@@ -54,6 +54,11 @@ set_none f k i h =
     let none : 0 ≡ k - i = omega arith in
     ap (λ (x : ℕ). set_of x (λ j. f (i + j))) none
 
+pub set_whole : (f : ℕ → Bool) (k i s : ℕ) → i ≤ 0 → s ≡ set_of (k - i) (λ j. f (i + j)) → s ≡ set_of k f
+set_whole f k i s h e =
+    let whole : k - i ≡ k = omega arith in
+    e ∙ ap (λ (x : ℕ). set_of x (λ j. f (i + j))) whole ∙ set_same k (λ j. f (i + j)) f (λ j l. let q : i + j ≡ j = omega arith in ap f q)
+
 -- how many links have a place
 pub placed_most : (p : Plan) → placed p ≤ 12
 placed_most p = go (leb (m p) 12) refl

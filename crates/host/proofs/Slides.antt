@@ -2,8 +2,10 @@
 use mathlib.Core.Path.{◌≡◌, refl, sym, ap, ◌∙◌}
 use mathlib.Core.List.{List, [], ◌∷◌}
 use Prim.Native.Nat.{ℕ, ◌+◌, ◌-◌}
+use native.Mathlib.Nat.{le_of_eq}
 use native.Mathlib.Omega.{arith}
 use lib.ListN.{length, take, drop, get_or, length-append, length-drop}
+use lib.Seq.{take_all}
 use Rattle.lists.specs.Lists.{pad}
 use Rattle.clock.specs.declared.Reading.{Reading}
 use Rattle.host.specs.State.{no_reading}
@@ -26,3 +28,7 @@ put_behind l u k n h e =
     four (a ∷ b ∷ c ∷ []) h = absurd (omega arith)
     four (a ∷ b ∷ c ∷ d ∷ []) h = refl
     four (a ∷ b ∷ c ∷ d ∷ e ∷ l) h = absurd (omega arith)
+
+pub in_place : (l : List Reading) (u : Reading) → length l ≡ 4
+    → (get_or l 1 no_reading ∷ get_or l 2 no_reading ∷ get_or l 3 no_reading ∷ u ∷ []) ≡ pad 4 no_reading (with_start l u)
+in_place l u h = put_behind l u 4 4 h refl ∙ ap (λ (t : List Reading). pad 4 no_reading (with_start t u)) (take_all 4 l (le_of_eq h))

@@ -3,7 +3,7 @@
 use mathlib.Core.Path.{◌≡◌, refl, sym, ap, subst, ◌∙◌}
 use mathlib.Core.List.{List, [], ◌∷◌, ◌++◌, append_assoc}
 use Prim.Native.Nat.{ℕ, zero, suc, ◌+◌, ◌-◌, ◌*◌, ◌/◌, ◌%◌, ◌^◌, ◌<◌, ◌≤◌}
-use native.Mathlib.Nat.{add-zero, zero-add, pow-suc, pow-le-pow_right, div-add-mod', div-lt_iff_lt-mul}
+use native.Mathlib.Nat.{add-zero, zero-add, pow-suc, pow-le-pow_right, div-add-mod', div-lt_iff_lt-mul, mod-lt}
 use native.Mathlib.Numerals.{add-one, sub-one}
 use native.Mathlib.Omega.{arith}
 use lib.Arith.{digits_lt, digits_div, digits_mod}
@@ -31,6 +31,20 @@ pub be_more : (k x : ℕ) → 0 < k → be k x ≡ be (k - 1) (x / 256) ++ ((x %
 unfolding be
 be_more zero x h = absurd (omega arith)
 be_more (suc k) x h = ap (λ (n : ℕ). be n (x / 256) ++ ((x % 256) ∷ [])) (sym (sub-one (suc k)))
+
+append_bytes : (xs ys : List ℕ) → Bytes xs → Bytes ys → Bytes (xs ++ ys)
+append_bytes [] ys p q i = q i
+append_bytes (x ∷ xs) ys p q zero = p 0
+append_bytes (x ∷ xs) ys p q (suc i) = append_bytes xs ys (λ j. p (suc j)) q i
+
+pub bytes_be : (k x : ℕ) → Bytes (be k x)
+unfolding be
+bytes_be zero x i = lit< tt
+bytes_be (suc k) x i = append_bytes (be k (x / 256)) ((x % 256) ∷ []) (bytes_be k (x / 256)) last i
+  where
+    last : Bytes ((x % 256) ∷ [])
+    last zero = mod-lt x (lit< tt)
+    last (suc i) = lit< tt
 
 -- ---- reading
 

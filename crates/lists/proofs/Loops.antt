@@ -8,7 +8,7 @@ use native.Mathlib.Numerals.{add-one}
 use native.Mathlib.Omega.{arith}
 use lib.ListN.{length, take, drop, get_or, drop_of_length-le, length-append}
 use lib.Seq.{drop-cons, get_or-take, length-take-le, take-suc, take-add}
-use Rattle.lists.specs.Lists.{all, any, keep}
+use Rattle.lists.specs.Lists.{all, any, rising_from, rising, keep}
 use Rattle.lists.proofs.Bools.{and_left_lem, and_right}
 
 -- ---- what is left
@@ -47,6 +47,12 @@ module _ {A : Type 0} {left : List A} {t : Bool} where
 
   pub any_end : (p : A → Bool) (ok : Bool) → left ≡ [] → (ok || any p left) ≡ t → ok ≡ t
   any_end p ok s inv = sym (or-false ok) ∙ (rw s at inv)
+
+-- before the first turn, the first element is the one before
+pub rising_start : {A : Type 0} (r : A → A → Bool) (d : A) (n : ℕ) (l : List A) → rising_from r (get_or l 0 d) (drop 1 (take n l)) ≡ rising r (take n l)
+rising_start r d zero l = refl
+rising_start r d (suc n) [] = refl
+rising_start r d (suc n) (x ∷ l) = refl
 
 -- ---- a loop that keeps the elements that pass a test
 

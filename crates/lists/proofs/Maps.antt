@@ -3,7 +3,7 @@ use mathlib.Core.Path.{◌≡◌, refl, sym, ap, ap₂, ◌∙◌, subst}
 use mathlib.Core.Bool.{Bool, true, false, ◌&&◌, ◌||◌}
 use mathlib.Core.List.{List, [], ◌∷◌, ◌++◌, map}
 use Prim.Native.Nat.{ℕ, zero, suc, ◌-◌}
-use lib.ListN.{length, length-map, take, drop, replicate, take-append-drop}
+use lib.ListN.{length, length-map, take, drop, set, replicate, take-append-drop}
 use Rattle.lists.specs.Lists.{all, any, rising, rising_from, insert, keep, pad}
 use Rattle.lists.proofs.Bools.{and_left_lem, and_right}
 use Rattle.lists.proofs.Listed.{all_member, member_all, all_append}
@@ -73,6 +73,11 @@ module _ {A B : Type 0} (f : A → B) where
   put_of n at x l =
       sym (take_map n (take at l ++ (x ∷ drop at l)))
       ∙ ap (take n) (map_append f (take at l) (x ∷ drop at l) ∙ ap₂ (λ (a b : List B). a ++ (f x ∷ b)) (sym (take_map at l)) (sym (drop_map at l)))
+
+  pub set_of_lem : (l : List A) (i : ℕ) (x : A) → map f (set l i x) ≡ set (map f l) i (f x)
+  set_of_lem [] i x = refl
+  set_of_lem (y ∷ l) zero x = refl
+  set_of_lem (y ∷ l) (suc i) x = ap (λ (t : List B). f y ∷ t) (set_of_lem l i x)
 
 -- a list comes back where each element that passes a test does
 pub map_there : {A B : Type 0} (f : A → B) (g : B → A) (p : A → Bool) → ((x : A) → p x ≡ true → g (f x) ≡ x) → (l : List A) → all p l ≡ true → map g (map f l) ≡ l

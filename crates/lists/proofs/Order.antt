@@ -1,7 +1,7 @@
 -- Rising lists stay rising: when one is put in under a new name, and when some are kept. Assumes nothing.
 use mathlib.Core.Path.{◌≡◌, refl}
 use mathlib.Core.Bool.{Bool, true, false, cond}
-use mathlib.Core.List.{List, [], ◌∷◌}
+use mathlib.Core.List.{List, [], ◌∷◌, ◌++◌}
 use Rattle.lists.specs.Lists.{any, rising_from, rising, insert, keep}
 use Rattle.lists.proofs.Bools.{and_left_lem, and_right, or_left_lem, or_right}
 
@@ -60,3 +60,12 @@ module _ {A : Type 0} (r : A → A → Bool) (trans : (x y z : A) → r x y ≡ 
         go : (t : Bool) → rising_from r y (keep p l) ≡ true → rising r (keep p l) ≡ true → rising r (cond t (y ∷ keep p l) (keep p l)) ≡ true
         go true a b = a
         go false a b = b
+
+-- what follows an element of a rising list rises from it
+pub rising_after : {A : Type 0} (r : A → A → Bool) (a : List A) (y : A) (b : List A) → rising r (a ++ (y ∷ b)) ≡ true → rising_from r y b ≡ true
+rising_after r [] y b up = up
+rising_after {A} r (x ∷ a) y b up = from x a up
+  where
+    from : (x : A) (a : List A) → rising_from r x (a ++ (y ∷ b)) ≡ true → rising_from r y b ≡ true
+    from x [] up = and_right (r x y) (rising_from r y b) up
+    from x (z ∷ a) up = from z a (and_right (r x z) (rising_from r z (a ++ (y ∷ b))) up)

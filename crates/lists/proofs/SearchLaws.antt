@@ -54,6 +54,14 @@ module _ (f : ℕ → Bool) where
 
   -- ---- each
 
+  pub each_start : each 0 f ≡ true
+  unfolding each
+  each_start = refl
+
+  pub each_more : (n : ℕ) → each (n + 1) f ≡ (f n && each n f)
+  unfolding each
+  each_more n = ap (λ (k : ℕ). each k f) (add-one n)
+
   pub each_true : (n : ℕ) → each n f ≡ true → (i : ℕ) → i < n → f i ≡ true
   unfolding each
   each_true zero e i h = absurd (not-suc-le-zero h)

@@ -154,3 +154,27 @@ pub any_chain : (t : Bool) (ts : List Bool) → or_left t ts ≡ any_of (t ∷ t
 unfolding any_of
 any_chain t [] = sym (or-false t)
 any_chain t (u ∷ ts) = any_chain (t || u) ts ∙ or_assoc t u (any_of ts)
+
+-- ---- a chain of checks, each of which looks at what the one before found, is the order of checks
+
+abbrev pub first_left : ℕ → List (ℕ × Bool) → ℕ
+first_left r [] = r
+first_left r (c ∷ cs) = first_left (cond (eqb r 0) (cond c.1 c.0 0) r) cs
+
+first_left_lem : (r : ℕ) (cs : List (ℕ × Bool)) → numbered cs ≡ true → first_left r cs ≡ cond (eqb r 0) (first_of cs) r
+first_left_lem r [] n = go (eqb r 0) refl
+  where
+    go : (t : Bool) → eqb r 0 ≡ t → r ≡ cond t 0 r
+    go true e = eqb-true r 0 e
+    go false e = refl
+first_left_lem r (c ∷ cs) n = first_left_lem (cond (eqb r 0) (cond c.1 c.0 0) r) cs (and_right (ltb 0 c.0) (numbered cs) n) ∙ go (eqb r 0) refl c.1
+  where
+    go : (t : Bool) → eqb r 0 ≡ t → (p : Bool) → cond (eqb (cond t (cond p c.0 0) r) 0) (first_of cs) (cond t (cond p c.0 0) r) ≡ cond t (cond p c.0 (first_of cs)) r
+    go true e true =
+        let z : 0 < c.0 = ltb-true 0 c.0 (and_left_lem (ltb 0 c.0) (numbered cs) n) in
+        ap (λ (t : Bool). cond t (first_of cs) c.0) (ne_eqb c.0 0 (λ q. let w : c.0 ≡ 0 = q in absurd (omega arith)))
+    go true e false = refl
+    go false e p = ap (λ (t : Bool). cond t (first_of cs) r) e
+
+pub first_chain : (cs : List (ℕ × Bool)) → numbered cs ≡ true → first_left 0 cs ≡ first_of cs
+first_chain cs n = first_left_lem 0 cs n

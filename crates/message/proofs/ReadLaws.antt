@@ -2,12 +2,12 @@
 use mathlib.Core.Path.{◌≡◌, refl, sym, ap, ◌∙◌}
 use mathlib.Core.Bool.{Bool, true, false, not, cond}
 use mathlib.Core.List.{List, [], ◌∷◌, ◌++◌}
-use Prim.Native.Nat.{ℕ, ◌+◌, ◌≤◌, ◌<◌}
-use native.Mathlib.Nat.{le_antisymm}
+use Prim.Native.Nat.{ℕ, ◌+◌, ◌-◌, ◌≤◌, ◌<◌}
+use native.Mathlib.Nat.{le_antisymm, zero-add, add-sub_cancel_left}
 use native.Mathlib.Omega.{arith}
 use borrow.Author.Tests.{eq-eqb, ne_eqb, eqb-true, lt-ltb, le-ltb, ltb-false, not-false}
 use lib.Dec.{eqb, ltb}
-use lib.ListN.{length, get_or}
+use lib.ListN.{length, get_or, take, drop}
 use Rattle.std.specs.Prelude.{Result, Ok, Err}
 use Rattle.std.specs.Result.{MatchResult, IsErrAnd}
 use Rattle.lists.specs.Tests.{first_of}
@@ -23,7 +23,7 @@ use Rattle.fields.specs.Slots.{slot_checks, slot_fields, numbers_at}
 use Rattle.fields.specs.declared.Fault.{Fault}
 use Rattle.fields.proofs.Checks.{found_before, none_before, Clear, first_clear, clear_right, fault_some}
 use Rattle.message.specs.Layout.{stamp_slot, source_slot, hop_slot, slots, order_place, order_checks, ending, message_fields, found_at}
-use Rattle.message.specs.Calls.{nothing, read_refusal, read_of}
+use Rattle.message.specs.Calls.{nothing, read_refusal, read_of, part_of, place_of}
 use Rattle.message.specs.Inside.{judged, hop_fields}
 use Rattle.message.specs.declared.Found.{Found}
 use Rattle.message.specs.declared.reading.Misplaced.{Misplaced}
@@ -130,6 +130,25 @@ pub read_room : (rules : ℕ) (bs : List ℕ) (f : Found) → (0, f) ≡ read_of
 read_room rules bs f e =
     let r = read_is rules bs f (sym e) in
     ap (λ (g : Found). g.start + g.size) r.found ∙ (read_end rules bs f r).whole
+
+-- ---- the order's part, of what was read and of nothing
+
+module _ (p : ℕ × ℕ) (rules : ℕ) (bs : List ℕ) where
+  unfoldable lies : ℕ × Found → ℕ × ℕ
+  lies a = (p.0, a.1.start + p.1)
+
+  unfoldable bytes : ℕ × Found → List ℕ
+  bytes a = take a.1.size (drop a.1.start bs)
+
+  pub part_is : (f : Found) → (0, f) ≡ read_of rules bs
+      → ((p.0, f.start + p.1) ≡ place_of rules bs p) × (take (f.start + f.size - f.start) (drop f.start bs) ≡ part_of rules bs)
+  unfolding lies bytes
+  part_is f e =
+      (ap lies e, ap (λ (n : ℕ). take n (drop f.start bs)) (add-sub_cancel_left f.start f.size) ∙ ap bytes e)
+
+  pub no_part : (n : ℕ) → (n, nothing) ≡ read_of rules bs → (p ≡ place_of rules bs p) × ([] ≡ part_of rules bs)
+  unfolding lies bytes
+  no_part n e = (ap (λ (k : ℕ). (p.0, k)) (sym (zero-add p.1)) ∙ ap lies e, ap bytes e)
 
 -- ---- what stands in the slots, taken from its places
 

@@ -4,7 +4,7 @@ use mathlib.Core.Path.{◌≡◌, refl, sym, ap, ap₂, ◌∙◌, fun_ext}
 use mathlib.Core.Bool.{Bool, true, false, cond, ◌||◌}
 use mathlib.Core.Logic.{⊎_elim}
 use Prim.Native.Nat.{ℕ, zero, suc, ◌+◌, ◌*◌, ◌/◌, ◌%◌, ◌^◌, ◌≤◌, ◌<◌, zero-le, max}
-use native.Mathlib.Nat.{add-zero, zero-add, add_assoc, add-mul, mul_assoc, mul_comm, mul-mod_left, one-mul, pow-suc, div-add-mod', le_refl, le_trans, le_of_eq, le-suc, le_antisymm, not-suc-le-zero}
+use native.Mathlib.Nat.{add-zero, zero-add, add_assoc, add-mul, mul_assoc, mul_comm, mul-mod_left, zero-mod, one-mul, pow-suc, div-add-mod', le_refl, le_trans, le_of_eq, le-suc, le_antisymm, not-suc-le-zero}
 use native.Mathlib.Omega.{arith}
 use borrow.Author.Tests.{eqb-true, eqb-false, leb-true, le-leb, lt-leb}
 use lib.Arith.{bin_ind}
@@ -64,6 +64,10 @@ ones_above i set j e h =
     let is = multiple i set e in
     let alone : ones set ≡ ones q = ap ones (is ∙ sym (add-zero (q * 2 ^ i))) ∙ ones_cat i q 0 (pow_pos i) ∙ add-zero (ones q) in
     ap (λ (x : ℕ). ones (x + j)) is ∙ ones_cat i q j h ∙ ap (λ (x : ℕ). x + ones j) (sym alone)
+
+pub upper_start : (k most : ℕ) → Upper k k most 0
+unfolding ones
+upper_start k most = record { places = le_refl k; fits = le_of_eq (zero-add (2 ^ k)); none_below = zero-mod (2 ^ k); few = zero-le }
 
 -- nothing is below i, or the set is full
 pub full : (i k most set : ℕ) → Upper i k most set → (eqb i 0 || leb most (ones set)) ≡ true → (g : ℕ → ℕ)

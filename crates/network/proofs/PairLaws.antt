@@ -1,12 +1,13 @@
 -- Sets of pairs: where two agree, and the masks, whose bits are computed one by one. Assumes nothing.
 use mathlib.Core.Path.{◌≡◌, refl, sym, ap, ap₂, ◌∙◌}
 use mathlib.Core.Bool.{Bool, true, false, ◌&&◌, ◌||◌, and_comm}
-use Prim.Native.Nat.{ℕ, ◌-◌, ◌*◌, ◌/◌, ◌%◌, ◌^◌, ◌<◌}
+use Prim.Native.Nat.{ℕ, ◌-◌, ◌*◌, ◌/◌, ◌%◌, ◌^◌, ◌≤◌, ◌<◌}
 use native.Mathlib.Omega.{arith}
-use borrow.Author.Tests.{eqb-true, eqb-false, eq-eqb, ne_eqb}
-use lib.Dec.{eqb, ltb}
+use borrow.Author.Tests.{eqb-true, eqb-false, eq-eqb, ne_eqb, leb-true}
+use lib.Dec.{eqb, leb, ltb}
 use lib.Bits.{bit_and, bit_or}
 use Rattle.lists.specs.Searches.{each}
+use Rattle.lists.proofs.Bools.{and_left_lem, and_right}
 use Rattle.lists.proofs.SearchLaws.{each_true, each_of}
 use Rattle.network.specs.Network.{has}
 use Rattle.network.specs.Inside.{pair, Pairs, paired, agree, alike}
@@ -81,6 +82,16 @@ first_table = refl
 pub first_hosts_lem : (n : ℕ) → n < 9 → Pairs (bit_and (18446744073709551615 / 2 ^ (64 - 8 * n)) (72340172838076673 * ((1 * 2 ^ n) % 2 ^ 64 - 1))) (λ a b. ltb a n && ltb b n)
 unfolding first_hosts
 first_hosts_lem n l = alike_at _ _ (each_true (λ n. alike (λ a b. has (first_hosts n) (pair a b)) (λ a b. ltb a n && ltb b n)) 9 first_table n l)
+
+-- and its product fits
+least_top : each 9 (λ n. leb 1 ((1 * 2 ^ n) % 2 ^ 64) && leb ((1 * 2 ^ n) % 2 ^ 64) 256) ≡ true
+unfolding each
+least_top = refl
+
+pub top_fits : (n : ℕ) → n < 9 → (1 ≤ (1 * 2 ^ n) % 2 ^ 64) × ((1 * 2 ^ n) % 2 ^ 64 ≤ 256)
+top_fits n h =
+    let t = each_true (λ n. leb 1 ((1 * 2 ^ n) % 2 ^ 64) && leb ((1 * 2 ^ n) % 2 ^ 64) 256) 9 least_top n h in
+    (leb-true _ _ (and_left_lem _ (leb ((1 * 2 ^ n) % 2 ^ 64) 256) t), leb-true _ _ (and_right (leb 1 ((1 * 2 ^ n) % 2 ^ 64)) _ t))
 
 itself_table : alike (λ a b. has 9241421688590303745 (pair a b)) eqb ≡ true
 unfolding each alike agree has

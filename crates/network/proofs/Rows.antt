@@ -3,12 +3,12 @@
 use mathlib.Core.Path.{◌≡◌, refl, sym, ap, ap₂, ◌∙◌, subst}
 use mathlib.Core.Bool.{Bool, true, ◌&&◌}
 use Prim.Native.Nat.{ℕ, zero, suc, ◌+◌, ◌-◌, ◌*◌, ◌/◌, ◌%◌, ◌^◌, ◌≤◌, ◌<◌}
-use native.Mathlib.Nat.{add_comm, mul-add, mul_assoc, mul-zero, mul-one, div-one, mod-lt, zero-lt-suc, le_refl, le_trans, le-suc, le_of_suc-le-suc, not-suc-le-zero, div-add-mod'}
+use native.Mathlib.Nat.{add_comm, mul-add, mul-le-mul, mul_assoc, mul-zero, mul-one, div-one, mod-lt, zero-lt-suc, le_refl, le_trans, le-suc, le_of_suc-le-suc, lt_of_le_of_lt, not-suc-le-zero, div-add-mod'}
 use native.Mathlib.Omega.{arith}
 use borrow.Author.Tests.{eqb-true}
 use lib.Arith.{digits_div, digits_mod}
-use lib.Dec.{eqb}
-use lib.Bits.{bit_and, and_shr, and_mod, and_mask}
+use lib.Dec.{eqb, lit<}
+use lib.Bits.{bit_and, and_le_r, and_shr, and_mod, and_mask}
 use lib.Pow.{shr-shr, field, mod-mod-pow}
 use Rattle.lists.specs.Searches.{each}
 use Rattle.lists.proofs.SearchLaws.{each_true}
@@ -99,3 +99,9 @@ row_has near joined a b c ha hb =
 
     joint : eqb (J / 2 ^ (8 * a) % 2) 1 ≡ has joined (pair a c)
     joint = has_shr joined c (8 * a) ∙ ap (has joined) (add_comm c (8 * a))
+
+pub row_fits : (near J : ℕ) → (near % 256) * bit_and J 72340172838076673 < 2 ^ 64
+row_fits near J =
+    let row : near % 256 ≤ 255 = omega arith in
+    let most : (near % 256) * bit_and J 72340172838076673 ≤ 255 * 72340172838076673 = mul-le-mul row (and_le_r J 72340172838076673) in
+    lt_of_le_of_lt most (lit< tt)

@@ -61,6 +61,10 @@ module _ (t out : List ℕ) where
       go false e = refl
       go true e = absurd (omega (arith, ltb-true))
 
+  pub short_room : too_short t out ≡ false → length t ≤ length out
+  unfolding too_short
+  short_room e = omega (arith, ltb-false)
+
 -- a text t that is the report r, written from the front of a buffer on
 module _ {t r : List ℕ} (same : t ≡ r) (small : length r ≤ enough) {b : MutBor (List ℕ)} {w v : Writer} (s : Starts b w) (short : length b.now ≤ last) (d : Wrote w t v) where
   counts : Counts w

@@ -1,5 +1,5 @@
 -- A buffer of `enough` bytes has room for every report, so none is refused with 22. Assumes nothing.
-use mathlib.Core.Path.{◌≡◌, sym}
+use mathlib.Core.Path.{◌≡◌, refl, sym, ap}
 use mathlib.Core.Bool.{Bool, true, false, cond}
 use mathlib.Core.List.{List, [], ◌++◌}
 use Prim.Native.Nat.{ℕ, ◌≤◌}
@@ -16,7 +16,7 @@ use Rattle.report.specs.declared.ShortBuffer.{ShortBuffer}
 use Rattle.report.specs.Text.{word, item, line, starts_text, hosts_text, outcome_text, refused_text, text}
 use Rattle.report.specs.Calls.{reported, says, too_short, told, enough}
 use Rattle.report.proofs.One.{one_told}
-use Rattle.report.proofs.Reports.{has_room}
+use Rattle.report.proofs.Reports.{has_room, short_room}
 use Rattle.report.proofs.Sizes.{item_size, line_size, index_size, starts_size, hosts_size}
 
 pub refused_size : (a : ℕ × ℕ) → length (refused_text a) ≤ 64
@@ -59,3 +59,14 @@ pub never_short : (bs out : List ℕ) → enough ≤ length out → (r : Result 
 never_short bs out room r e =
     let l = text_size (answered bs) (outcome_of bs) (outcome_in_places bs) in
     one_told r (Ok (length (reported bs))) e (sym (rw (has_room (reported bs) out (omega arith))))
+
+-- what was written lies within the buffer
+pub written_fits : (t out : List ℕ) (n : ℕ) → says (Ok n) ≡ told t out → n ≤ length out
+written_fits t out n e = go (too_short t out) refl e
+  where
+    go : (b : Bool) → too_short t out ≡ b → says (Ok n) ≡ cond b (22, 0) (0, length t) → n ≤ length out
+    go true f e = let z : ◌≡◌ {A = ℕ} 0 22 = ap (λ (q : ℕ × ℕ). q.0) e in absurd (omega arith)
+    go false f e =
+        let m : n ≡ length t = ap (λ (q : ℕ × ℕ). q.1) e in
+        let l = short_room t out f in
+        omega arith

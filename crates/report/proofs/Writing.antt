@@ -48,6 +48,9 @@ module _ {w m v : Writer} {xs ys : List ℕ} where
         end = λ h. omega (arith, a.end h, b.end (counts h));
       }
 
+pub wrote_length : {w v : Writer} {xs : List ℕ} → Wrote w xs v → Counts w → length v.out.now ≡ length w.out.now
+wrote_length {w} {v} {xs} a h = ap length (a.put h) ∙ length-sets w.out.now w.at xs
+
 -- the same bytes by another name
 pub wrote_as : {w v : Writer} {xs ys : List ℕ} → xs ≡ ys → Wrote w xs v → Wrote w ys v
 wrote_as {w} {v} e a = rw (sym e) a

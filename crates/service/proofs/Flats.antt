@@ -1,12 +1,12 @@
 -- What the host's definitions say of a flat history, said of its places; and the memory of the state that a call leaves. Assumes nothing.
 use mathlib.Core.Path.{◌≡◌, sym, ap, ap₂, ◌∙◌, subst}
-use mathlib.Core.Bool.{true, not}
+use mathlib.Core.Bool.{Bool, true, not}
 use mathlib.Core.List.{List, map}
 use Prim.Native.Nat.{ℕ, ◌+◌, ◌-◌, ◌≤◌}
 use native.Mathlib.Omega.{arith}
 use lib.ListN.{length, length-map, take, drop}
 use lib.Seq.{length-take-le}
-use Rattle.lists.specs.Lists.{all, rising, keep, insert, pad}
+use Rattle.lists.specs.Lists.{all, any, rising, keep, insert, pad}
 use Rattle.lists.proofs.Bools.{or_true_left}
 use Rattle.lists.proofs.Loops.{keep_both}
 use Rattle.lists.proofs.Places.{length_insert}
@@ -15,9 +15,9 @@ use Rattle.orders.specs.declared.Order.{Order}
 use Rattle.orders.specs.Orders.{share_fits}
 use Rattle.host.specs.declared.Held.{Held}
 use Rattle.host.specs.declared.Host.{Host}
-use Rattle.host.specs.State.{no_held, no_reading, is_no_held, held_of, starts_of, before, sound, with, Sized}
+use Rattle.host.specs.State.{no_held, no_reading, is_no_held, held_of, starts_of, before, same_name, sound, with, Sized}
 use Rattle.host.specs.Start.{start_refusal, with_start, start_of, after_start}
-use Rattle.host.specs.Receive.{receive_refusal, after_receive}
+use Rattle.host.specs.Receive.{same_held, other_held, receive_refusal, after_receive}
 use Rattle.host.specs.Tick.{due, due_of, waiting_of, tick_refusal, after_tick}
 use Rattle.host.specs.Calls.{Call, start, receive, ticks, refusal, becomes}
 use Rattle.host.proofs.Facts.{SoundIs, sound_is, is_sound, start_is, receive_is, tick_is}
@@ -27,7 +27,7 @@ use Rattle.service.specs.declared.HeldMemory.{HeldMemory}
 use Rattle.service.specs.declared.HostMemory.{HostMemory}
 use Rattle.service.specs.Memory.{held_from, own_from, host_from, held_memory, host_memory}
 use Rattle.service.specs.Inside.{memory_with, before_in, unused_in, due_in, waits_in, none}
-use Rattle.lists.proofs.Maps.{take_map, drop_map, all_of_lem, rising_of, keep_of, insert_of, pad_of}
+use Rattle.lists.proofs.Maps.{take_map, drop_map, all_of_lem, any_of, rising_of, keep_of, insert_of, pad_of}
 use Rattle.service.proofs.Back.{all_hold, low, held_back, places_there, own_there}
 
 module _ (f : HostMemory) where
@@ -51,6 +51,20 @@ module _ (f : HostMemory) where
 
   pub sized_in : length f.starts ≡ 4 → length f.history ≡ 32 → Sized h
   sized_in starts history = record { starts = starts; history = length-map f.history held_from ∙ history }
+
+  -- ---- what is held under a name
+
+  any_in : (p : Held → Bool) → any p (held_of h) ≡ any (λ (e : HeldMemory). p (held_from e)) l
+  any_in p = ap (any p) held_in ∙ any_of held_from p l
+
+  pub same_in_lem : (x : Held) → any (same_held x) (held_of h) ≡ any (λ (e : HeldMemory). same_held x (held_from e)) l
+  same_in_lem x = any_in (same_held x)
+
+  pub other_in_lem : (x : Held) → any (other_held x) (held_of h) ≡ any (λ (e : HeldMemory). other_held x (held_from e)) l
+  other_in_lem x = any_in (other_held x)
+
+  pub named_in_lem : (x : Held) → any (same_name x) (held_of h) ≡ any (λ (e : HeldMemory). same_name x (held_from e)) l
+  named_in_lem x = any_in (same_name x)
 
   -- ---- what is due
 

@@ -1,6 +1,6 @@
 -- Numbers that are an order's, and what the order of any three numbers tells of them. Assumes nothing.
-use mathlib.Core.Path.{◌≡◌, refl, sym, ap₂, subst, ◌∙◌}
-use mathlib.Core.Bool.{Bool, true, false, cond, ◌&&◌, and-false, true≢false}
+use mathlib.Core.Path.{◌≡◌, refl, sym, ap₂, ◌∙◌}
+use mathlib.Core.Bool.{Bool, true, false, cond, ◌&&◌, true≢false}
 use Prim.Native.Nat.{ℕ, ◌+◌, ◌*◌, ◌≤◌, ◌<◌}
 use native.Mathlib.Omega.{arith}
 use borrow.Author.Tests.{leb-true, le-leb, eqb-true, eq-eqb, ne_eqb}
@@ -10,6 +10,10 @@ use Rattle.orders.specs.declared.Order.TheVariants.{Publish}
 use Rattle.orders.specs.Orders.{is_kind, is_share, share_fits, order_of}
 use Rattle.service.specs.Memory.{formed, zeros, order_from}
 use Rattle.service.specs.Bits.{by_form}
+
+pub share_byte : (kind share : ℕ) → formed kind share ≡ true → share < 256
+share_byte kind share f =
+    by_form kind share f (λ k s. s < 256) (λ s e. let h : s ≤ 100 = leb-true _ _ (and_right (leb 1 s) (leb s 100) e) in omega arith) (omega arith) (omega arith) (omega arith)
 
 module _ (kind image share : ℕ) where
   -- its share is in range just where they are an order's

@@ -7,6 +7,7 @@ mod Standing
 mod Settled
 mod Prefixes
 mod Flats
+mod Gathers
 mod Sounds
 mod Sizes
 pub mod Through

@@ -1,5 +1,5 @@
 -- The lengths of what is written, which C's number of an answer has room for, and numbers put at the front of a lent list. Assumes nothing.
-use mathlib.Core.Path.{◌≡◌, sym, ap, ◌∙◌}
+use mathlib.Core.Path.{◌≡◌, refl, sym, ap, ◌∙◌}
 use mathlib.Core.Bool.{Bool, true, false, cond}
 use mathlib.Core.List.{List, [], ◌∷◌, ◌++◌, append_assoc}
 use Prim.Native.Nat.{ℕ, ◌+◌, ◌≤◌, ◌<◌}
@@ -7,15 +7,16 @@ use native.Mathlib.Omega.{arith}
 use Rattle.lists.proofs.Loops.{left_next}
 use lib.Seq.{length-take-le, take-suc, set_at}
 use native.Mathlib.Numerals.{add-one}
-use lib.Dec.{eqb}
+use lib.Dec.{ltb, eqb}
 use lib.ListN.{length, take, drop, get_or, set}
 use Rattle.std.specs.Prelude.{Result, Ok, Err, IfOk}
-use Rattle.host.specs.Answers.{says_tick}
+use Rattle.host.specs.Answers.{says_tick, unless}
 use Rattle.host.specs.declared.Refusal.{Refusal}
+use Rattle.message.specs.declared.Found.{Found}
 use Rattle.message.specs.declared.Message.{Message}
 use Rattle.message.specs.Layout.{layout}
 use Rattle.message.specs.declared.WriteRefusal.{WriteRefusal}
-use Rattle.message.specs.Calls.{write_refusal, write_says, written}
+use Rattle.message.specs.Calls.{write_refusal, write_says, written, read_of}
 use Rattle.message.proofs.WriteLaws.{place_small, size_small, length_layout}
 use Rattle.schedule.specs.Calls.{answered}
 use Rattle.engine.specs.Calls.{outcome_of}
@@ -23,6 +24,7 @@ use Rattle.report.specs.declared.ShortBuffer.{ShortBuffer}
 use Rattle.report.specs.Calls.{reported, says, too_short, told, enough}
 use Rattle.engine.proofs.Runs.{outcome_in_places}
 use Rattle.report.proofs.Room.{text_size}
+use Rattle.service.specs.Calls.{numbers_of, read_answer, read_left}
 
 -- a message has at most 28 bytes
 pub message_few : (rules : ℕ) (m : Message) → length (layout rules m) ≤ 28
@@ -54,6 +56,19 @@ told_small bs out (Err _) e = tt
 pub tick_small : (r : Result ℕ Refusal) → (says_tick r).count ≤ 32 → IfOk r (λ n. n ≤ 16777215)
 tick_small (Ok n) few = omega (arith, few)
 tick_small (Err _) few = tt
+
+-- what reading says is what the answer and the numbers are made of
+module _ (rules : ℕ) (bs out : List ℕ) (said : ℕ × Found) (e : said ≡ read_of rules bs) where
+  pub read_answer_lem : cond (eqb said.0 0) (cond (ltb (length out) 8) 22 0) said.0 ≡ read_answer rules bs (length out)
+  read_answer_lem = ap (λ (q : ℕ × Found). cond (eqb q.0 0) (cond (ltb (length out) 8) 22 0) q.0) e
+
+  pub read_left_lem : unless (cond (eqb said.0 0) (cond (ltb (length out) 8) 22 0) said.0) (numbers_of said.1 ++ drop 8 out) out ≡ read_left rules bs out
+  read_left_lem = ap (λ (q : ℕ × Found). unless (cond (eqb q.0 0) (cond (ltb (length out) 8) 22 0) q.0) (numbers_of q.1 ++ drop 8 out) out) e
+
+-- refused by a test alone
+pub unless_test : {A : Type 0} (b : Bool) (x y : A) → cond b y x ≡ unless (cond b 22 0) x y
+unless_test true x y = refl
+unless_test false x y = refl
 
 -- one number more at the front
 pub put_next : (l out : List ℕ) (i : ℕ) → i < length l → i < length out → set (take i l ++ drop i out) i (get_or l i 0) ≡ take (i + 1) l ++ drop (i + 1) out

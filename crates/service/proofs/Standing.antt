@@ -5,11 +5,12 @@ use Prim.Native.Nat.{ℕ, zero, suc, ◌+◌, ◌≤◌, ◌<◌}
 use native.Mathlib.Omega.{arith}
 use borrow.Author.Tests.{eqb-true, ne_eqb, le-leb, lt-leb}
 use lib.Dec.{leb, eqb}
+use Rattle.board.specs.declared.Stand.{Stand}
 use Rattle.board.specs.Board.{stand_fits, is_absent}
 use Rattle.service.specs.declared.PlaceMemory.{PlaceMemory}
-use Rattle.service.specs.Memory.{stand_from}
+use Rattle.service.specs.Memory.{stand_from, place_from, place_memory}
 use Rattle.service.specs.Inside.{blank_in}
-use Rattle.service.specs.Stands.{by}
+use Rattle.service.specs.Stands.{by, place_back}
 use Rattle.lists.proofs.Zeros.{sum_zero}
 
 module _ (stand share : ℕ) where
@@ -46,6 +47,10 @@ module _ (stand share : ℕ) where
       go false true h = refl
       go false false true = refl
       go false false false = refl
+
+-- a stand that fits comes back from the memory that was made of it
+pub placed_in : (p : PlaceMemory) (image : ℕ) (stand : Stand) → p ≡ place_memory (record { image = image; stand = stand }) → stand_fits stand ≡ true → place_from p ≡ record { image = image; stand = stand }
+placed_in p image stand e f = ap place_from e ∙ place_back (record { image = image; stand = stand }) (λ some. f)
 
 -- an unused place has three zeros, and they are three where their sum is
 pub blank_sum : (p : PlaceMemory) → eqb (p.image + p.stand + p.share) 0 ≡ blank_in p

@@ -13,7 +13,7 @@ use Rattle.lists.specs.Lists.{keep, pad}
 use Rattle.clock.specs.declared.Reading.{Reading}
 use Rattle.host.specs.declared.Held.{Held}
 use Rattle.host.specs.declared.Host.{Host}
-use Rattle.host.specs.Answers.{SaidTick, said_by_tick}
+use Rattle.host.specs.Answers.{SaidTick, said_by_tick, unless}
 use Rattle.host.specs.State.{Sized}
 use Rattle.host.specs.Tick.{due_of, written, tick_refusal, tick_says, tick_list, after_tick}
 use Rattle.host.specs.Calls.{ticks}
@@ -33,12 +33,28 @@ use Rattle.service.proofs.Prefixes.{in_front_lem, due_before}
 pub delivered_all : (k n : ℕ) → k ≡ 0 → (said_by_tick k n).count ≡ n
 delivered_all k n e = rw e
 
+-- only a tick that is not refused delivers
+pub delivers : (k n : ℕ) → ((said_by_tick k n).count ≡ 0 → ⊥) → k ≡ 0
+delivers k n some = go (eqb k 0) refl
+  where
+    go : (b : Bool) → eqb k 0 ≡ b → k ≡ 0
+    go true e = eqb-true k 0 e
+    go false e = absurd (some (ap (λ (b : Bool). (cond {A = SaidTick} b (record { refusal = 0; count = n }) (record { refusal = k; count = 0 })).count) e))
+
 module _ (f : HostMemory) (u : Reading) (room : ℕ) where
   abbrev h : Host
   h = host_from f
 
   abbrev k : ℕ
   k = tick_refusal h u.0 room
+
+  -- a tick leaves its own reading as the last, or is refused and leaves the last as it was
+  pub last_left : unless k u f.last ≡ (call_left f u (ticks room)).last
+  last_left = go (eqb k 0)
+    where
+      go : (b : Bool) → cond b u f.last ≡ (cond b (host_memory (after_tick h u)) f).last
+      go true = refl
+      go false = refl
 
   pub idle_left : length f.history ≡ 32 → (tick_says h u.0 room).count ≡ 0 → memory_at f (call_left f u (ticks room)).last ≡ call_left f u (ticks room)
   idle_left long none = go (eqb k 0) refl
@@ -119,6 +135,14 @@ module _ (f : HostMemory) (u : Reading) (room count : ℕ) (said : record { refu
         ap (λ (t : List HeldMemory). written (map held_from t) out) due
         ∙ ap (λ (t : List Held). written t out) (sym (due_in_lem f u.0))
         ∙ sym (rw e (accepted _ (written (due_of (host_from f) u.0) out) out not_refused))
+
+-- a tick answers no more than are due
+pub said_least : (k n : ℕ) (s : SaidTick) → s ≡ said_by_tick k n → s.count ≤ n
+said_least k n s e = go (eqb k 0) (ap (λ (t : SaidTick). t.count) e)
+  where
+    go : (b : Bool) → s.count ≡ (cond {A = SaidTick} b (record { refusal = 0; count = n }) (record { refusal = k; count = 0 })).count → s.count ≤ n
+    go true c = omega arith
+    go false c = omega arith
 
 -- a tick answers at most 32
 pub said_few : (f : HostMemory) (u : Reading) (room : ℕ) → length f.history ≡ 32 → (tick_says (host_from f) u.0 room).count ≤ 32
