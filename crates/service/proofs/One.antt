@@ -8,6 +8,8 @@ use Rattle.clock.specs.declared.Reading.{Reading}
 use Rattle.orders.specs.declared.Order.{Order}
 use Rattle.network.specs.Network.{planned}
 use Rattle.host.specs.declared.Frame.{Frame}
+use Rattle.host.specs.declared.Held.{Held}
+use Rattle.host.specs.declared.Host.{Host}
 use Rattle.host.specs.State.{frame_of}
 use Rattle.host.specs.Make.{make_refusal}
 use Rattle.host.specs.Answers.{Said}
@@ -18,10 +20,11 @@ use Rattle.message.specs.declared.Message.{Message}
 use Rattle.message.specs.Calls.{written, written_to}
 use Rattle.report.specs.Calls.{reported, told}
 use Rattle.report.specs.Calls as report
+use Rattle.service.specs.declared.HeldMemory.{HeldMemory}
 use Rattle.service.specs.declared.HostMemory.{HostMemory}
 use Rattle.service.specs.declared.BoardMemory.{BoardMemory}
 use Rattle.service.specs.declared.PlanMemory.{PlanMemory}
-use Rattle.service.specs.Memory.{host_from, board_from}
+use Rattle.service.specs.Memory.{held_from, held_memory, host_from, host_memory, board_from}
 use Rattle.service.specs.Calls.{pair_number, call_left, send_number, tick_number, make_left, order_left, plan_left, read_answer, read_left}
 
 -- what is left, and the answer
@@ -64,3 +67,13 @@ loom_replay_one bs out r s l k = both
 -- all but the history, as the host's calls take it
 pub frame_from_one : (f : HostMemory) (r s : Frame) → r ≡ frame_of (host_from f) → s ≡ frame_of (host_from f) → r ≡ s
 frame_from_one f r s = one_result
+
+-- what stands in a place of the history, the place of an order, and the memory of a state
+pub held_from_one : (e : HeldMemory) (r s : Held) → r ≡ held_from e → s ≡ held_from e → r ≡ s
+held_from_one e r s = one_result
+
+pub held_memory_one : (x : Held) (r s : HeldMemory) → r ≡ held_memory x → s ≡ held_memory x → r ≡ s
+held_memory_one x r s = one_result
+
+pub host_memory_one : (h : Host) (r s : HostMemory) → r ≡ host_memory h → s ≡ host_memory h → r ≡ s
+host_memory_one h r s = one_result

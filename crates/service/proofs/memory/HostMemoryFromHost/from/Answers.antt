@@ -1,8 +1,9 @@
 -- Each place of the history holds what the order there becomes. Assumes nothing.
 use borrow.Author.Rules.{rules}
 use native.Mathlib.Omega.{arith}
-use mathlib.Core.Path.{◌≡◌, ap, ◌∙◌}
+use mathlib.Core.Path.{◌≡◌, ap, ap₂, ◌∙◌}
 use mathlib.Core.List.{List, map}
+use Prim.Native.Nat.{ℕ}
 use lib.ListN.{length, get_or, set, take}
 use Rattle.lists.specs.Lists.{pad}
 use Rattle.host.specs.State.{no_held}
@@ -24,6 +25,9 @@ loop-i-preserved c =
 
 pub returns : goal.returns
 returns c =
-    let l : List Held = c.args.host.history in
+    let s = c.args.host in
+    let l : List Held = s.history in
     let long : length l ≡ 32 = search rules in
-    rw (c.loop-i.invariant, fill_all held_memory 32 none l c.loop-i.i (omega arith) long) (search rules)
+    ap₂ (λ (own : ℕ) (places : List HeldMemory).
+    record { bound = s.bound; last = s.last; own = own; started = s.started; held = s.held; starts = s.starts; history = places; plan = s.plan; rules = s.rules; d = s.d })
+    c.from.ensures (c.loop-i.invariant ∙ fill_all held_memory 32 none l c.loop-i.i (omega arith) long)
