@@ -51,4 +51,4 @@ returns _ c =
     let g = c.args in
     let hosts = g.p.small.hosts in
     let s = turn g.i (n g.p.plan) (π g.p.plan) g.hs c.requires.upper c.if-i-hs.false (omega arith) in
-    meets s (at_hosts g.p.plan) c.max.ensures c.hosts_out-d.ensures c.hosts_out.ensures
+    meets s (at_hosts g.p.plan) {x = c.hosts_out-d.result} {y = c.hosts_out.result} (search rules) c.hosts_out-d.ensures c.hosts_out.ensures
