@@ -3,8 +3,8 @@ ghost use Rattle.std.specs.Prelude.{◌<◌};
 
 use crate::networks::{cube, octahedron};
 use crate::timing;
-use network::{Bounds, Plan, PlanRefusal};
 use network::planning::plan;
+use network::{Bounds, Plan, PlanRefusal};
 use std::io;
 use std::time::CpuClock;
 

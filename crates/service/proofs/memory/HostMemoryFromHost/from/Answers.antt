@@ -30,4 +30,4 @@ returns c =
     let long : length l ≡ 32 = search rules in
     ap₂ (λ (own : ℕ) (places : List HeldMemory).
     record { bound = s.bound; last = s.last; own = own; started = s.started; held = s.held; starts = s.starts; history = places; plan = s.plan; rules = s.rules; d = s.d })
-    c.from.ensures (c.loop-i.invariant ∙ fill_all held_memory 32 none l c.loop-i.i (omega arith) long)
+    c.from-2.ensures (c.loop-i.invariant ∙ fill_all held_memory 32 none l c.loop-i.i (omega arith) long)
