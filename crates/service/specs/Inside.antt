@@ -1,4 +1,4 @@
--- Notions that private contracts, and the proofs of those, cite. Assumes nothing.
+-- Notions that private contracts, the order of a history's places, and the proofs of both, cite. Assumes nothing.
 use Rattle.std.specs.Prelude.{Bool, not, List, ℕ}
 use Rattle.host.specs.State.{before, is_no_held}
 use Rattle.host.specs.Tick.{due}
